@@ -1,0 +1,4 @@
+pub mod Bounds
+pub mod Power
+pub mod Series
+pub mod Tail

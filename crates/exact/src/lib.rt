@@ -1,0 +1,1 @@
+// Exact fractions are definitions and laws; there is nothing to run.

@@ -1,0 +1,25 @@
+"""Runs the second program as the bench program: terms.bin from the current directory, proposals on standard input.
+
+`python3 second < proposals`, with this folder's path, from any directory.  Assumes nothing.
+"""
+
+import os
+import sys
+
+sys.path.insert(0, os.path.dirname(os.path.dirname(os.path.abspath(__file__))))
+
+from second.bench import lines  # noqa: E402
+
+
+def main():
+    try:
+        with open("terms.bin", "rb") as file:
+            table = file.read()
+    except FileNotFoundError:  # counts as empty
+        table = b""
+    for text in lines(table, sys.stdin.buffer.read()):
+        print(text)
+
+
+if __name__ == "__main__":
+    main()

@@ -1,0 +1,149 @@
+"""Random tables, f64s and sheet numbers for tests and comparisons.  Assumes a seeded random.Random as `random`."""
+
+import os
+
+from second import f64
+from second.bracket import Bracket, given
+from second.exact import at_most, fraction
+from second.sheet import ZERO, exact
+from second.term import LARGEST_MAGNITUDE, LARGEST_T, MOST, Term, packed
+
+ROOT = os.path.dirname(os.path.dirname(os.path.dirname(os.path.abspath(__file__))))
+
+INFINITY, NAN = f64.word(float("inf")), f64.word(float("nan"))
+NEGATIVE = 1 << 63  # the bits of -0.0, and the sign of any f64
+
+
+def table5():
+    with open(os.path.join(ROOT, "data", "terms.bin"), "rb") as file:
+        return file.read()
+
+
+# f64s
+
+def above(word):
+    """The next f64 above a finite one, by its bits."""
+    if word == NEGATIVE:
+        word = 0
+    return word - 1 if word & NEGATIVE else word + 1
+
+
+def under(word):
+    """The next f64 below a finite one."""
+    return above(word ^ NEGATIVE) ^ NEGATIVE
+
+
+def between(random, low, high):
+    """A random f64 from low to high, as bits."""
+    return f64.word(random.uniform(low, high))
+
+
+def temperature(random):
+    return random.choice([between(random, 273, 1273), f64.word(random.randint(273, 1273)), f64.word(273.0),
+                          f64.word(1273.0)])
+
+
+def density(random):
+    """Even in its logarithm, even on the line, few bits, or an end of the range."""
+    return random.choice([f64.word(2.0 ** random.uniform(-10, 10.33)), between(random, 0.001, 1288),
+                          f64.word(random.randint(1, 1288)), f64.word(random.choice([2.0 ** -10, 1288.0, 322.0]))])
+
+
+def odd_f64(random):
+    """Any bits, the values that programs trip over, and neighbours of limits."""
+    limit = f64.word(random.choice([0.0, 273.0, 1273.0, 2.0 ** -10, 1288.0, 322.0, 1e9, 1e6]))
+    return random.choice([random.getrandbits(64), INFINITY, INFINITY | NEGATIVE, NAN, NAN | NEGATIVE, 0, NEGATIVE, 1,
+                          NEGATIVE | 1, limit, above(limit), under(limit), limit ^ NEGATIVE])
+
+
+# tables
+
+def coefficient(random):
+    """A sound magnitude: any size, round decimals, the ends."""
+    return random.choice([random.randint(1, LARGEST_MAGNITUDE), random.randint(1, 10 ** random.randint(1, 17)),
+                          random.randint(1, 10 ** 10) * 10 ** random.randint(0, 7), 1, LARGEST_MAGNITUDE])
+
+
+def term(random):
+    return Term(random.randrange(4), random.randint(1, 15), random.randint(0, LARGEST_T), random.randrange(2),
+                coefficient(random))
+
+
+def gentle_term(random):
+    """Small enough that pressures stay under the ceiling more often than not."""
+    return term(random)._replace(d=random.randint(1, 4), t=random.randint(0, 6),
+                                 magnitude=random.randint(1, 10 ** random.randint(8, 15)))
+
+
+def sound_table(random, most=MOST, kind=term):
+    return b"".join(packed(kind(random)) for _ in range(random.randint(1, most)))
+
+
+def broken_term(random):
+    """One field, or several, outside its rule."""
+    breaks = [{"d": 0}, {"t": random.randint(LARGEST_T + 1, 31)}, {"magnitude": 0},
+              {"magnitude": LARGEST_MAGNITUDE + 1}, {"magnitude": random.randint(LARGEST_MAGNITUDE + 1, 2 ** 60 - 1)}]
+    fields = {}
+    for chosen in random.sample(breaks, random.choice([1, 1, 1, 2, 3])):
+        fields.update(chosen)
+    return term(random)._replace(**fields)
+
+
+def damaged_table(random, places=1):
+    """A sound table with the given count of broken terms (as many as it holds)."""
+    table = bytearray(sound_table(random))
+    count = len(table) // 9
+    for place in random.sample(range(count), min(places, count)):
+        table[9 * place:9 * place + 9] = packed(broken_term(random))
+    return bytes(table)
+
+
+# sheet numbers
+
+def sheet(random, bits=32, reach=20000, positive=False):
+    """A sheet number with an exponent of at most `reach` either way: random digits, few digits, or next to a power."""
+    m = random.choice([random.getrandbits(bits), random.getrandbits(3) << (bits - 4), (1 << bits) - 1, 0,
+                       random.getrandbits(4)]) | 1 << (bits - 1)
+    e = random.randint(-reach, reach)
+    if positive or random.randrange(2):
+        return (m, e)
+    return (-m, e)
+
+
+def neighbour(s):
+    """The same but for the last digit."""
+    m, e = s
+    return (m ^ 1, e) if m >= 0 else (-(-m ^ 1), e)
+
+
+def sheet_near(random, s, bits=32):
+    """A sheet number whose last places lie near those of s, of either sign; at times s itself or its mirror."""
+    m, e = s
+    if m == 0:
+        return sheet(random, bits)
+    step = random.choice([0, 0, 1, -1, 2, random.randint(-40, 40)])
+    n = random.choice([m, -m, neighbour(s)[0], -neighbour(s)[0], sheet(random, bits)[0]])
+    return (n, e + step)
+
+
+def ordered(bits, a, b):
+    return Bracket(bits, a, b) if at_most(exact(a), exact(b)) else Bracket(bits, b, a)
+
+
+def bracket(random, bits=32, reach=300, positive=False):
+    """Narrow, wide, a single value, or one that reaches over zero."""
+    a = sheet(random, bits, reach, positive)
+    b = random.choice([a, neighbour(a), sheet(random, bits, reach, positive), (a[0], a[1] + 1)])
+    if not positive:
+        a = random.choice([a, a, a, ZERO])
+    return ordered(bits, a, b)
+
+
+def narrow(random, bits=32, low=-4, high=7):
+    """The bracket of one positive f64, between powers of two."""
+    return given(bits, *f64.exact(f64.word(2.0 ** random.uniform(low, high))))
+
+
+def holds(b, x):
+    """Whether the fraction x lies in the bracket b."""
+    return fraction(exact(b.lower)) <= x <= fraction(exact(b.upper))

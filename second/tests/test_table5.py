@@ -1,0 +1,52 @@
+"""Table 5 against what is known of water, with the rough search of tests/: a slip in the typed table would show.
+
+Floats are used here; nothing else rests on them.
+"""
+
+import struct
+
+import rough_search
+from second import f64
+from second.tests.samples import table5
+from second.verdict import pair_check, state_sheet
+
+W = f64.word
+
+
+def floats(answer):
+    return [struct.unpack(">d", struct.pack(">Q", end))[0] for end in answer.ends]
+
+
+def test_critical_point():
+    """Document 001 constrained the equation to 22.064 MPa at 647.14 K and 322 kg/m3, with no stiffness there."""
+    low, high, softest, softer = floats(state_sheet(table5(), W(647.14), W(322.0)))
+    assert 22.0639e6 < low < high < 22.0641e6
+    assert abs(softest) < 1 and abs(softer) < 1
+
+
+def test_boiling_point():
+    liquid, vapour = rough_search.pair(373.15)
+    answer = pair_check(table5(), W(373.15), W(liquid), W(vapour), W(1e4), W(10.0))
+    assert answer.number == 0
+    low, high = floats(answer)
+    assert 101.2e3 < low < high < 101.5e3
+    assert abs(liquid - 958.4) < 0.2 and abs(vapour - 0.5977) < 0.001
+
+
+def test_saturation_line():
+    """The rough search settles all along the line, and its pairs are accepted at a generous tolerance."""
+    pressures = []
+    for T in [273.16] + list(range(280, 641, 30)) + [645, 647]:
+        liquid, vapour = rough_search.pair(T)
+        answer = pair_check(table5(), W(T), W(liquid), W(vapour), W(1e4), W(10.0))
+        assert answer.number == 0, T
+        pressures.append(floats(answer)[0])
+    assert pressures == sorted(pressures) and abs(pressures[0] - 611.66) < 0.5
+
+
+def test_rough_readings_agree():
+    for T, rho in ((300.0, 996.5), (500.0, 0.25), (700.0, 400.0), (1273.0, 100.0)):
+        low, high, softest, stiffest = floats(state_sheet(table5(), W(T), W(rho)))
+        slack = 1e-6 * rho * 461.5 * T
+        assert low - slack < rough_search.pressure(T, rho) < high + slack
+        assert softest - slack < rough_search.stiffness(T, rho) < stiffest + slack

@@ -1,0 +1,134 @@
+"""State sheet, density check and pair check, with the table of numbers in order (01, "Inputs" and "Verdicts").
+
+Any bytes and any f64s (as their 64 bits) are answered; assumes nothing.
+"""
+
+from typing import NamedTuple, Tuple
+
+from . import f64
+from .bracket import given
+from .equation import gibbs_gap, phase, pressure, stiffness
+from .exact import at_most, below, negated
+from .logarithm import logarithm_of_ratio
+from .sheet import exact
+from .term import first_broken, sound_length, terms_of
+
+TEMPERATURES = ((273, 1, 0), (1273, 1, 0))
+DENSITIES = ((1, 1, -10), (1288, 1, 0))
+TARGETS = ((0, 1, 0), (10 ** 9, 1, 0))
+TOLERANCES = ((0, 1, 0), (10 ** 6, 1, 0))
+DIVIDE = (322, 1, 0)  # liquid above, vapour below
+CEILING = (10 ** 9, 1, 0)
+
+
+class Answer(NamedTuple):
+    number: int
+    place: int
+    ends: Tuple[int, ...]  # bits of f64s
+
+
+def refused(number, place=0, ends=2):
+    return Answer(number, place, (0,) * ends)
+
+
+def with_ends(number, *brackets):
+    return Answer(number, 0, tuple(f64.of_sheet(end) for b in brackets for end in (b.lower, b.upper)))
+
+
+def within(word, limits):
+    low, high = limits
+    x = f64.exact(word)
+    return x is not None and at_most(low, x) and at_most(x, high)
+
+
+def on_their_sides(liquid, vapour):
+    """Asked only of densities in range, which are finite."""
+    return below(DIVIDE, f64.exact(liquid)) and below(f64.exact(vapour), DIVIDE)
+
+
+def table_refusal(table):
+    """Numbers 1 and 2, as (number, place); None for a sound table."""
+    if not sound_length(table):
+        return 1, 0
+    place = first_broken(table)
+    return (2, place) if place else None
+
+
+def too_high(bracket):
+    return below(CEILING, exact(bracket.upper))
+
+
+def gap_passes(gap, tolerance):
+    """The whole bracket lies within the tolerance, taken by its exact value."""
+    limit = f64.exact(tolerance)
+    return at_most(negated(limit), exact(gap.lower)) and at_most(exact(gap.upper), limit)
+
+
+def stiff(bracket):
+    return bracket.lower[0] > 0
+
+
+def state_sheet(table, T, rho, bits=32):
+    broken = table_refusal(table)
+    if broken:
+        return refused(*broken, ends=4)
+    if not within(T, TEMPERATURES):
+        return refused(3, ends=4)
+    if not within(rho, DENSITIES):
+        return refused(4, ends=4)
+    state = phase(bits, terms_of(table), f64.exact(T), f64.exact(rho))
+    if too_high(pressure(state)):
+        return refused(8, ends=4)
+    return with_ends(0, pressure(state), stiffness(state))
+
+
+def density_check(table, T, rho, target, tolerance, bits=32):
+    broken = table_refusal(table)
+    if broken:
+        return refused(*broken)
+    if not within(T, TEMPERATURES):
+        return refused(3)
+    if not within(rho, DENSITIES):
+        return refused(4)
+    if not within(target, TARGETS):
+        return refused(5)
+    if not within(tolerance, TOLERANCES):
+        return refused(6)
+    state = phase(bits, terms_of(table), f64.exact(T), f64.exact(rho))
+    if too_high(pressure(state)):
+        return refused(8)
+    gap = pressure(state) - given(bits, *f64.exact(target))
+    if not gap_passes(gap, tolerance):
+        return with_ends(9, gap)
+    if not stiff(stiffness(state)):
+        return with_ends(11, stiffness(state))
+    return with_ends(0, pressure(state))
+
+
+def pair_check(table, T, liquid, vapour, pressure_tolerance, gibbs_tolerance, bits=32):
+    broken = table_refusal(table)
+    if broken:
+        return refused(*broken)
+    if not within(T, TEMPERATURES):
+        return refused(3)
+    if not (within(liquid, DENSITIES) and within(vapour, DENSITIES)):
+        return refused(4)
+    if not (within(pressure_tolerance, TOLERANCES) and within(gibbs_tolerance, TOLERANCES)):
+        return refused(6)
+    if not on_their_sides(liquid, vapour):
+        return refused(7)
+    T, liquid, vapour = f64.exact(T), f64.exact(liquid), f64.exact(vapour)
+    terms = terms_of(table)
+    heavy, light = phase(bits, terms, T, liquid), phase(bits, terms, T, vapour)
+    if too_high(pressure(heavy)) or too_high(pressure(light)):
+        return refused(8)
+    gap = pressure(heavy) - pressure(light)
+    if not gap_passes(gap, pressure_tolerance):
+        return with_ends(9, gap)
+    gap = gibbs_gap(heavy, light, logarithm_of_ratio(bits, liquid, vapour))
+    if not gap_passes(gap, gibbs_tolerance):
+        return with_ends(10, gap)
+    for state in (heavy, light):
+        if not stiff(stiffness(state)):
+            return with_ends(11, stiffness(state))
+    return with_ends(0, pressure(light))
