@@ -44,11 +44,13 @@ module _ (f : Fraction → Fraction → Fraction) (a b c e : Fraction) where
   greatestOver-be = ≼-trans (greatest-right _ _) (greatest-right _ _)
 
 -- what holds of the four results holds of the least and of the greatest
-pub leastOver-elim {ℓ} : (P : Fraction → Type ℓ) (f : Fraction → Fraction → Fraction) (a b c e : Fraction) → P (f a c) → P (f a e) → P (f b c) → P (f b e) → P (leastOver f a b c e)
+pub leastOver-elim {ℓ} : (P : Fraction → Type ℓ) (f : Fraction → Fraction → Fraction) (a b c e : Fraction) →
+    P (f a c) → P (f a e) → P (f b c) → P (f b e) → P (leastOver f a b c e)
 unfolding leastOver
 leastOver-elim P f a b c e h i j k = least-elim P (least-elim P h i) (least-elim P j k)
 
-pub greatestOver-elim {ℓ} : (P : Fraction → Type ℓ) (f : Fraction → Fraction → Fraction) (a b c e : Fraction) → P (f a c) → P (f a e) → P (f b c) → P (f b e) → P (greatestOver f a b c e)
+pub greatestOver-elim {ℓ} : (P : Fraction → Type ℓ) (f : Fraction → Fraction → Fraction) (a b c e : Fraction) →
+    P (f a c) → P (f a e) → P (f b c) → P (f b e) → P (greatestOver f a b c e)
 unfolding greatestOver
 greatestOver-elim P f a b c e h i j k = greatest-elim P (greatest-elim P h i) (greatest-elim P j k)
 
@@ -65,7 +67,9 @@ unfolding Between
 falling {u} {v} h k = record { above = ≼-trans (least-right u v) h; under = ≼-trans k (greatest-left u v) }
 
 -- the second operand at its ends, then the first
-over : (f : Fraction → Fraction → Fraction) (a b c e x y : Fraction) → Between (f a y) (f b y) (f x y) → Between (f a c) (f a e) (f a y) → Between (f b c) (f b e) (f b y) → Within (leastOver f a b c e) (greatestOver f a b c e) (f x y)
+over : (f : Fraction → Fraction → Fraction) (a b c e x y : Fraction) →
+    Between (f a y) (f b y) (f x y) → Between (f a c) (f a e) (f a y) → Between (f b c) (f b e) (f b y) →
+    Within (leastOver f a b c e) (greatestOver f a b c e) (f x y)
 unfolding Between leastOver greatestOver
 over f a b c e x y h i j =
     record {
@@ -121,10 +125,12 @@ negate-within h = record { above = negate-anti (h .under); under = negate-anti (
 
 -- ---- which of the four results the ends are
 -- the least is one result where that is at or below the other three, and so the greatest
-pub leastOver-is : (f : Fraction → Fraction → Fraction) (a b c e : Fraction) {u : Fraction} → leastOver f a b c e ≼ u → u ≼ f a c → u ≼ f a e → u ≼ f b c → u ≼ f b e → leastOver f a b c e ≈ u
+pub leastOver-is : (f : Fraction → Fraction → Fraction) (a b c e : Fraction) {u : Fraction} →
+    leastOver f a b c e ≼ u → u ≼ f a c → u ≼ f a e → u ≼ f b c → u ≼ f b e → leastOver f a b c e ≈ u
 leastOver-is f a b c e {u} g h i j k = ≼-antisym g (leastOver-elim (λ (v : Fraction). u ≼ v) f a b c e h i j k)
 
-pub greatestOver-is : (f : Fraction → Fraction → Fraction) (a b c e : Fraction) {u : Fraction} → u ≼ greatestOver f a b c e → f a c ≼ u → f a e ≼ u → f b c ≼ u → f b e ≼ u → greatestOver f a b c e ≈ u
+pub greatestOver-is : (f : Fraction → Fraction → Fraction) (a b c e : Fraction) {u : Fraction} →
+    u ≼ greatestOver f a b c e → f a c ≼ u → f a e ≼ u → f b c ≼ u → f b e ≼ u → greatestOver f a b c e ≈ u
 greatestOver-is f a b c e {u} g h i j k = ≼-antisym (greatestOver-elim (λ (v : Fraction). v ≼ u) f a b c e h i j k) g
 
 -- the sum and the difference need only two of the four

@@ -1,11 +1,12 @@
 -- Powers of an exact fraction: what they do to products, sums of exponents, signs and the order. Assumes nothing.
 use Prim.Native.Nat.{ℕ, zero, suc, _+_, _^_}
-use mathlib.Core.Path.{_≡_, refl, ap, sym}
+use mathlib.Core.Path.{_≡_, refl, ap, sym, _∙_}
 use native.Mathlib.Omega.{arith}
+use native.Mathlib.Numerals.{add-one}
 use native.Mathlib.Nat.{add-zero, add-suc, pow-zero, pow-suc}
 use Rattle.exact.specs.Fraction.{Fraction, nat, _⊗_, _≼_, _≺_, _≈_}
 use Rattle.exact.specs.Fraction.Order.{≼-refl, ≈-refl, ≈-sym, ≈-trans, ≈-of-≡}
-use Rattle.exact.specs.Fraction.Product.{⊗-assoc, ⊗-comm, ⊗-cong, ⊗-one, one-⊗, ⊗-nonneg, ⊗-pos, ⊗-mono}
+use Rattle.exact.specs.Fraction.Product.{⊗-assoc, ⊗-middle, ⊗-cong, ⊗-one, one-⊗, ⊗-nonneg, ⊗-pos, ⊗-mono}
 use Rattle.exact.specs.Fraction.Parts.{nat-⊗, nat-nonneg, nat-≺}
 use Rattle.exact.specs.Series.{power}
 
@@ -16,6 +17,9 @@ power-zero x = refl
 pub power-suc : (x : Fraction) (n : ℕ) → power x (suc n) ≡ power x n ⊗ x
 unfolding power
 power-suc x n = refl
+
+pub power-next : (x : Fraction) (n : ℕ) → power x (n + 1) ≡ power x n ⊗ x
+power-next x n = ap (power x) (add-one n) ∙ power-suc x n
 
 pub power-one : (x : Fraction) → power x 1 ≈ x
 unfolding power
@@ -47,13 +51,6 @@ power-add x m zero = ≈-trans (≈-of-≡ (ap (power x) (add-zero m))) (≈-sym
 power-add x m (suc n) =
     ≈-trans (≈-of-≡ (ap (power x) (add-suc m n)))
     (≈-trans (⊗-cong (power-add x m n) (≈-refl x)) (⊗-assoc (power x m) (power x n) x))
-
--- the two middle factors of four change places
-pub ⊗-middle : (a b x y : Fraction) → (a ⊗ b) ⊗ (x ⊗ y) ≈ (a ⊗ x) ⊗ (b ⊗ y)
-⊗-middle a b x y =
-    ≈-trans (⊗-assoc a b (x ⊗ y))
-    (≈-trans (⊗-cong (≈-refl a) (≈-trans (≈-sym (⊗-assoc b x y)) (≈-trans (⊗-cong (⊗-comm b x) (≈-refl y)) (⊗-assoc x b y))))
-    (≈-sym (⊗-assoc a x (b ⊗ y))))
 
 pub power-⊗ : (x y : Fraction) (n : ℕ) → power (x ⊗ y) n ≈ power x n ⊗ power y n
 unfolding power

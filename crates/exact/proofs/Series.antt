@@ -2,6 +2,7 @@
 use Prim.Native.Nat.{ℕ, zero, suc, _+_, _*_, _≤_}
 use mathlib.Core.Path.{_≡_, refl, ap}
 use native.Mathlib.Omega.{arith}
+use native.Mathlib.Numerals.{add-one}
 use native.Mathlib.Nat.{zero-lt-suc}
 use native.Mathlib.Decide.{le-ind}
 use Rattle.exact.specs.Fraction.{Fraction, nat, _⊕_, _⊗_, _⊘_, _≼_, _≺_, _≈_}
@@ -21,6 +22,9 @@ partial-zero t = refl
 pub partial-suc : (t : ℕ → Fraction) (n : ℕ) → partial t (suc n) ≡ partial t n ⊕ t (suc n)
 unfolding partial
 partial-suc t n = refl
+
+pub partial-next : (t : ℕ → Fraction) (n : ℕ) → partial t (n + 1) ≡ partial t n ⊕ t (n + 1)
+partial-next t n = rw add-one (partial-suc t n)
 
 pub partial-cong : {t u : ℕ → Fraction} → ((k : ℕ) → t k ≈ u k) → (n : ℕ) → partial t n ≈ partial u n
 unfolding partial
@@ -46,6 +50,9 @@ expTerm-zero x = refl
 pub expTerm-suc : (x : Fraction) (k : ℕ) → expTerm x (suc k) ≡ expTerm x k ⊗ x ⊘ nat (suc k)
 unfolding expTerm
 expTerm-suc x k = refl
+
+pub expTerm-next : (x : Fraction) (k : ℕ) → expTerm x (k + 1) ≡ expTerm x k ⊗ x ⊘ nat (k + 1)
+expTerm-next x k = rw add-one (expTerm-suc x k)
 
 pub expTerm-cong : {x y : Fraction} → x ≈ y → (k : ℕ) → expTerm x k ≈ expTerm y k
 unfolding expTerm

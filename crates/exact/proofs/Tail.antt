@@ -39,7 +39,8 @@ expTerm-half {x} M k s h l =
     (≈-≼-trans (≈-sym (⊗-⊕ T x x))
     (⊗-mono-right (expTerm-nonneg s k) (≼-trans (⊕-mono h h) (≼-trans (≈→≽ (nat-⊕ M M)) (nat-≼ l))))))
 
-pub exp-tail : {x : Fraction} (M K N : ℕ) → nat 0 ≼ x → x ≼ nat M → M + M ≤ suc K → K ≤ N → Within (partial (expTerm x) K) (partial (expTerm x) K ⊕ expTerm x K) (partial (expTerm x) N)
+pub exp-tail : {x : Fraction} (M K N : ℕ) → nat 0 ≼ x → x ≼ nat M → M + M ≤ suc K → K ≤ N →
+    Within (partial (expTerm x) K) (partial (expTerm x) K ⊕ expTerm x K) (partial (expTerm x) N)
 exp-tail {x} M K N s h l k =
     tail-within (expTerm x) K (expTerm-nonneg s) (λ m r. expTerm-half M m s h (omega arith)) N k
 
@@ -61,24 +62,29 @@ lnTerm-half {z} s h j =
     ≈-≼-trans (≈-sym (⊕-⊘ q q (nat (2 * suc j + 1))))
     (≼-trans (⊘-anti-right g (nat-pos (omega arith)) (nat-≼ (omega arith))) (⊘-mono-left (nat (2 * j + 1)) d))
 
-pub ln-tail : {z : Fraction} (K N : ℕ) → nat 0 ≼ z → z ≼ parts false 1 3 → K ≤ N → Within (partial (lnTerm z) K) (partial (lnTerm z) K ⊕ lnTerm z K) (partial (lnTerm z) N)
+pub ln-tail : {z : Fraction} (K N : ℕ) → nat 0 ≼ z → z ≼ parts false 1 3 → K ≤ N →
+    Within (partial (lnTerm z) K) (partial (lnTerm z) K ⊕ lnTerm z K) (partial (lnTerm z) N)
 ln-tail {z} K N s h k = tail-within (lnTerm z) K (lnTerm-nonneg s) (λ m r. lnTerm-half s h m) N k
 
 -- ---- at the levels of document 01: 256 for the exponential of x to 128, 20 for the logarithm
-pub exp-tail-256 : {x : Fraction} (N : ℕ) → nat 0 ≼ x → x ≼ nat 128 → 256 ≤ N → Within (partial (expTerm x) 256) (partial (expTerm x) 256 ⊕ expTerm x 256) (partial (expTerm x) N)
+pub exp-tail-256 : {x : Fraction} (N : ℕ) → nat 0 ≼ x → x ≼ nat 128 → 256 ≤ N →
+    Within (partial (expTerm x) 256) (partial (expTerm x) 256 ⊕ expTerm x 256) (partial (expTerm x) N)
 exp-tail-256 N s h k = exp-tail 128 256 N s h (omega arith) k
 
-pub ln-tail-20 : {z : Fraction} (N : ℕ) → nat 0 ≼ z → z ≼ parts false 1 3 → 20 ≤ N → Within (partial (lnTerm z) 20) (partial (lnTerm z) 20 ⊕ lnTerm z 20) (partial (lnTerm z) N)
+pub ln-tail-20 : {z : Fraction} (N : ℕ) → nat 0 ≼ z → z ≼ parts false 1 3 → 20 ≤ N →
+    Within (partial (lnTerm z) 20) (partial (lnTerm z) 20 ⊕ lnTerm z 20) (partial (lnTerm z) N)
 ln-tail-20 N s h k = ln-tail 20 N s h k
 
 -- the readings at a level from them
-pub expnegAt-within : {x : Fraction} (M K N : ℕ) → nat 0 ≼ x → x ≼ nat M → M + M ≤ suc K → K ≤ N → Within (nat 1 ⊘ (partial (expTerm x) K ⊕ expTerm x K)) (nat 1 ⊘ partial (expTerm x) K) (expnegAt N x)
+pub expnegAt-within : {x : Fraction} (M K N : ℕ) → nat 0 ≼ x → x ≼ nat M → M + M ≤ suc K → K ≤ N →
+    Within (nat 1 ⊘ (partial (expTerm x) K ⊕ expTerm x K)) (nat 1 ⊘ partial (expTerm x) K) (expnegAt N x)
 unfolding expnegAt
 expnegAt-within M K N s h l k =
     let w = exp-tail M K N s h l k in
     record { above = ⊘-anti-right (nat-nonneg 1) (expSum-pos s N) (w .under); under = ⊘-anti-right (nat-nonneg 1) (expSum-pos s K) (w .above) }
 
-pub lnAt-within : {z : Fraction} (K N : ℕ) → nat 0 ≼ z → z ≼ parts false 1 3 → K ≤ N → Within (nat 2 ⊗ partial (lnTerm z) K) (nat 2 ⊗ (partial (lnTerm z) K ⊕ lnTerm z K)) (lnAt N z)
+pub lnAt-within : {z : Fraction} (K N : ℕ) → nat 0 ≼ z → z ≼ parts false 1 3 → K ≤ N →
+    Within (nat 2 ⊗ partial (lnTerm z) K) (nat 2 ⊗ (partial (lnTerm z) K ⊕ lnTerm z K)) (lnAt N z)
 unfolding lnAt
 lnAt-within K N s h k =
     let w = ln-tail K N s h k in

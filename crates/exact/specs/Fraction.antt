@@ -10,6 +10,8 @@ pub mod Sum
 pub mod Product
 pub mod Quotient
 pub mod Parts
+pub mod Readers
+pub mod Units
 pub mod Least
 
 infixl 65 _⊕_ _⊖_

@@ -86,6 +86,13 @@ pub ≈-of-≡ : {x y : Fraction} → x ≡ y → x ≈ y
 pub ≼-split : {x y : Fraction} → x ≼ y → (x ≺ y) ⊎ (x ≈ y)
 ≼-split {x} {y} h = elim (≼-or-≺ y x) [ inl k ↦ inr (≼-antisym h k) | inr k ↦ inl k ]
 
+pub ≈-dec : (x y : Fraction) → Dec (x ≈ y)
+≈-dec x y =
+    elim (≼-or-≺ x y) [
+      | inl h ↦ elim (≼-or-≺ y x) [ inl k ↦ yes (≼-antisym h k) | inr k ↦ no (λ e. ≼-not-≺ (≈→≽ e) k) ]
+      | inr h ↦ no (λ e. ≼-not-≺ (≈→≼ e) h)
+    ]
+
 -- the relations respect equality
 pub ≈-≼-trans : {x y z : Fraction} → x ≈ y → y ≼ z → x ≼ z
 ≈-≼-trans h k = ≼-trans (≈→≼ h) k

@@ -162,8 +162,16 @@ parts-⊕ true a b c e hb he = record { eq = rw (max-eq-right hb, max-eq-right h
 
 pub parts-⊕-less : (s : Bool) (a b c e : ℕ) → 0 < b → 0 < e → c * b ≤ a * e → parts s a b ⊕ parts (not s) c e ≈ parts s (a * e - c * b) (b * e)
 unfolding parts _⊕_
-parts-⊕-less false a b c e hb he h = record { eq = rw (max-eq-right hb, max-eq-right he, max-eq-right (mul-pos hb he)) (omega (arith, ap (λ (v : ℕ). v * (b * e)) (sub-add-cancel h))) }
-parts-⊕-less true a b c e hb he h = record { eq = rw (max-eq-right hb, max-eq-right he, max-eq-right (mul-pos hb he)) (omega (arith, ap (λ (v : ℕ). v * (b * e)) (sub-add-cancel h))) }
+parts-⊕-less false a b c e hb he h =
+    record {
+      eq = rw (max-eq-right hb, max-eq-right he, max-eq-right (mul-pos hb he))
+          (omega (arith, ap (λ (v : ℕ). v * (b * e)) (sub-add-cancel h)));
+    }
+parts-⊕-less true a b c e hb he h =
+    record {
+      eq = rw (max-eq-right hb, max-eq-right he, max-eq-right (mul-pos hb he))
+          (omega (arith, ap (λ (v : ℕ). v * (b * e)) (sub-add-cancel h)));
+    }
 
 pub parts-inv : (a b : ℕ) → 0 < a → 0 < b → inv (parts false a b) ≈ parts false b a
 unfolding parts inv

@@ -5,8 +5,9 @@ use mathlib.Core.Path.{_≡_, subst}
 use mathlib.Core.Logic.{inl, inr}
 use native.Mathlib.Omega.{arith}
 use native.Mathlib.Nat.{mul-le-mul-right, mul-le-mul-left, mul-lt-mul-of-pos-right, le-dest}
-use Rattle.exact.specs.Fraction.{Fraction, nat, negate, _⊕_, _⊗_, _≼_, _≺_, _≈_}
-use Rattle.exact.specs.Fraction.Order.{≼-trans, ≼-≺-trans, ≺→≼, ≼-antisym, ≈→≼, ≈→≽, ≈-trans, ≼-resp, ≺-resp, ≼-or-≺, ≼-not-≺}
+use Rattle.exact.specs.Fraction.{Fraction, nat, negate, _⊕_, _⊖_, _⊗_, _≼_, _≺_, _≈_}
+use Rattle.exact.specs.Fraction.Order.{≼-trans, ≼-≺-trans, ≺→≼, ≼-antisym, ≈→≼, ≈→≽, ≈-refl, ≈-sym, ≈-trans, ≼-resp, ≺-resp, ≼-or-≺, ≼-not-≺}
+use Rattle.exact.specs.Fraction.Sum.{⊖-cong, ⊖-⊖-⊖}
 
 pub ⊗-comm : (x y : Fraction) → x ⊗ y ≈ y ⊗ x
 unfolding _⊗_
@@ -15,6 +16,10 @@ unfolding _⊗_
 pub ⊗-assoc : (x y z : Fraction) → (x ⊗ y) ⊗ z ≈ x ⊗ (y ⊗ z)
 unfolding _⊗_
 ⊗-assoc x y z = omega arith
+
+pub ⊗-swap : (x y z : Fraction) → x ⊗ (y ⊗ z) ≈ y ⊗ (x ⊗ z)
+unfolding _⊗_
+⊗-swap x y z = omega arith
 
 pub ⊗-one : (x : Fraction) → x ⊗ nat 1 ≈ x
 unfolding _⊗_ nat
@@ -51,6 +56,14 @@ unfolding _⊗_ _⊕_
 pub ⊕-⊗ : (x y z : Fraction) → (x ⊕ y) ⊗ z ≈ (x ⊗ z) ⊕ (y ⊗ z)
 unfolding _⊗_ _⊕_
 ⊕-⊗ x y z = cross (omega arith) (omega arith)
+
+pub ⊗-⊖ : (x y z : Fraction) → x ⊗ (y ⊖ z) ≈ (x ⊗ y) ⊖ (x ⊗ z)
+unfolding _⊗_ _⊖_ _⊕_ negate
+⊗-⊖ x y z = cross (omega arith) (omega arith)
+
+pub ⊖-⊗ : (x y z : Fraction) → (x ⊖ y) ⊗ z ≈ (x ⊗ z) ⊖ (y ⊗ z)
+unfolding _⊗_ _⊖_ _⊕_ negate
+⊖-⊗ x y z = cross (omega arith) (omega arith)
 
 -- what a product of two differences at or above zero comes to
 rearrange : {a b c e : ℕ} → a ≤ b → c ≤ e → a * e + b * c ≤ a * c + b * e
@@ -124,3 +137,13 @@ pub ⊗-square : (x : Fraction) → nat 0 ≼ x ⊗ x
       | inl s ↦ ⊗-nonneg s s
       | inr s ↦ ≼-trans (≈→≽ (zero-⊗ x)) (⊗-anti-left (≺→≼ s) (≺→≼ s))
     ]
+
+-- the two middle factors of four change places
+pub ⊗-middle : (a b x y : Fraction) → (a ⊗ b) ⊗ (x ⊗ y) ≈ (a ⊗ x) ⊗ (b ⊗ y)
+⊗-middle a b x y =
+    ≈-trans (⊗-assoc a b (x ⊗ y)) (≈-trans (⊗-cong (≈-refl a) (⊗-swap b x y)) (≈-sym (⊗-assoc a x (b ⊗ y))))
+
+-- a product of two differences
+pub ⊖-⊗-⊖ : (a b c e : Fraction) → (a ⊖ b) ⊗ (c ⊖ e) ≈ (a ⊗ c ⊕ b ⊗ e) ⊖ (a ⊗ e ⊕ b ⊗ c)
+⊖-⊗-⊖ a b c e =
+    ≈-trans (⊖-⊗ a b (c ⊖ e)) (≈-trans (⊖-cong (⊗-⊖ a c e) (⊗-⊖ b c e)) (⊖-⊖-⊖ (a ⊗ c) (a ⊗ e) (b ⊗ c) (b ⊗ e)))

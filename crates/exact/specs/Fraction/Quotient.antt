@@ -4,7 +4,7 @@ use mathlib.Core.Path.{_≡_, ap}
 use native.Mathlib.Omega.{arith}
 use Rattle.exact.specs.Fraction.{Fraction, nat, negate, _⊕_, _⊗_, inv, _⊘_, _≼_, _≺_, _≈_}
 use Rattle.exact.specs.Fraction.Order.{≺-≼-trans, ≺→≼, ≼-antisym, ≈→≼, ≈→≽, ≈-refl, ≈-sym, ≈-trans, ≼-≈-trans, ≈-≼-trans}
-use Rattle.exact.specs.Fraction.Product.{⊗-comm, ⊗-assoc, ⊗-one, ⊕-⊗, ⊗-mono-left, ⊗-mono-right, ⊗-mono-left-≺, ⊗-cancel-right, ⊗-cong, ⊗-nonneg, ⊗-pos, negate-⊗, zero-⊗}
+use Rattle.exact.specs.Fraction.Product.{⊗-middle, one-⊗, ⊗-cong-left, ⊗-comm, ⊗-assoc, ⊗-one, ⊕-⊗, ⊗-mono-left, ⊗-mono-right, ⊗-mono-left-≺, ⊗-cancel-right, ⊗-cong, ⊗-nonneg, ⊗-pos, negate-⊗, zero-⊗}
 
 -- the divisor as it stands, for y above zero
 inv-d : {y : Fraction} → nat 0 ≺ y → (inv y) .d + y .n ≡ y .p
@@ -114,3 +114,44 @@ unfolding _⊘_
 pub negate-⊘ : (x y : Fraction) → negate x ⊘ y ≈ negate (x ⊘ y)
 unfolding _⊘_
 negate-⊘ x y = negate-⊗ x (inv y)
+
+-- ---- quotients and products together
+pub ⊗-⊘-assoc : (x y z : Fraction) → x ⊗ y ⊘ z ≈ x ⊗ (y ⊘ z)
+unfolding _⊘_
+⊗-⊘-assoc x y z = ⊗-assoc x y (inv z)
+
+pub inv-of-⊗ : {y z : Fraction} → nat 0 ≺ y → nat 0 ≺ z → inv (y ⊗ z) ≈ inv y ⊗ inv z
+inv-of-⊗ {y} {z} s t =
+    ≈-sym
+    (≈-trans (⊘-unique (inv y ⊗ inv z) (⊗-pos s t)
+    (≈-trans (⊗-middle (inv y) (inv z) y z) (≈-trans (⊗-cong (inv-⊗ s) (inv-⊗ t)) (⊗-one (nat 1)))))
+    (≈-trans (⊘-is (nat 1) (y ⊗ z)) (one-⊗ (inv (y ⊗ z)))))
+
+pub ⊘-⊘ : {y z : Fraction} (x : Fraction) → nat 0 ≺ y → nat 0 ≺ z → x ⊘ y ⊘ z ≈ x ⊘ (y ⊗ z)
+unfolding _⊘_
+⊘-⊘ {y} {z} x s t = ≈-trans (⊗-assoc x (inv y) (inv z)) (⊗-cong (≈-refl x) (≈-sym (inv-of-⊗ s t)))
+
+pub ⊘-⊗-⊘ : {y v : Fraction} (x u : Fraction) → nat 0 ≺ y → nat 0 ≺ v → (x ⊘ y) ⊗ (u ⊘ v) ≈ (x ⊗ u) ⊘ (y ⊗ v)
+unfolding _⊘_
+⊘-⊗-⊘ {y} {v} x u s t =
+    ≈-trans (⊗-middle x (inv y) u (inv v)) (⊗-cong (≈-refl (x ⊗ u)) (≈-sym (inv-of-⊗ s t)))
+
+-- a common factor goes
+pub ⊘-common : {y z : Fraction} (x : Fraction) → nat 0 ≺ y → nat 0 ≺ z → (x ⊗ z) ⊘ (y ⊗ z) ≈ x ⊘ y
+⊘-common {y} {z} x s t =
+    ≈-trans (≈-sym (⊘-⊗-⊘ x z s t)) (≈-trans (⊗-cong (≈-refl (x ⊘ y)) (⊘-self t)) (⊗-one (x ⊘ y)))
+
+pub inv-inv : {y : Fraction} → nat 0 ≺ y → inv (inv y) ≈ y
+inv-inv {y} s =
+    ≈-trans (≈-sym (≈-trans (⊘-is (nat 1) (inv y)) (one-⊗ (inv (inv y))))) (≈-sym (⊘-unique y (inv-pos y) (⊗-inv s)))
+
+-- the order of two quotients, by cross products
+pub ⊘-≼-⊘ : {y v : Fraction} (x u : Fraction) → nat 0 ≺ y → nat 0 ≺ v → x ⊗ v ≼ u ⊗ y → x ⊘ y ≼ u ⊘ v
+⊘-≼-⊘ {y} {v} x u s t h =
+    ≼-⊘ t (≈-≼-trans swapped (≼-≈-trans (⊘-mono-left y h) (⊗-⊘ u s)))
+  where
+    swapped : x ⊘ y ⊗ v ≈ x ⊗ v ⊘ y
+    swapped =
+        ≈-trans (⊗-cong-left v (⊘-is x y))
+        (≈-trans (⊗-assoc x (inv y) v)
+        (≈-trans (⊗-cong (≈-refl x) (⊗-comm (inv y) v)) (≈-trans (≈-sym (⊗-assoc x v (inv y))) (≈-sym (⊘-is (x ⊗ v) y)))))

@@ -4,7 +4,7 @@ use Prim.Native.Nat.{_*_}
 use native.Mathlib.Omega.{arith}
 use native.Mathlib.Nat.{le-of-mul-le-mul-left, lt-of-mul-lt-mul-left, mul-le-mul-right, mul-lt-mul-of-pos-right, mul-pos}
 use Rattle.exact.specs.Fraction.{Fraction, nat, negate, _⊕_, _⊖_, _≼_, _≺_, _≈_}
-use Rattle.exact.specs.Fraction.Order.{≼-trans, ≺-≼-trans, ≼-≺-trans, ≼-antisym, ≈→≼, ≈→≽, ≈-refl, ≼-resp, ≺-resp}
+use Rattle.exact.specs.Fraction.Order.{≼-trans, ≺-≼-trans, ≼-≺-trans, ≼-antisym, ≈→≼, ≈→≽, ≈-refl, ≈-sym, ≈-trans, ≼-resp, ≺-resp}
 
 pub ⊕-comm : (x y : Fraction) → x ⊕ y ≈ y ⊕ x
 unfolding _⊕_
@@ -13,6 +13,10 @@ unfolding _⊕_
 pub ⊕-assoc : (x y z : Fraction) → (x ⊕ y) ⊕ z ≈ x ⊕ (y ⊕ z)
 unfolding _⊕_
 ⊕-assoc x y z = omega arith
+
+pub ⊕-swap : (x y z : Fraction) → x ⊕ (y ⊕ z) ≈ y ⊕ (x ⊕ z)
+unfolding _⊕_
+⊕-swap x y z = omega arith
 
 pub ⊕-zero : (x : Fraction) → x ⊕ nat 0 ≈ x
 unfolding _⊕_ nat
@@ -167,3 +171,26 @@ pub ⊕-pos : {x y : Fraction} → nat 0 ≺ x → nat 0 ≼ y → nat 0 ≺ x �
 -- adding what is at or above zero
 pub ≼-⊕-right : {x y : Fraction} → nat 0 ≼ y → x ≼ x ⊕ y
 ≼-⊕-right {x} {y} h = ≼-trans (≈→≽ (⊕-zero x)) (⊕-mono-right x h)
+
+-- ---- sums and differences of two such
+pub ⊕-middle : (a b c e : Fraction) → (a ⊕ b) ⊕ (c ⊕ e) ≈ (a ⊕ c) ⊕ (b ⊕ e)
+⊕-middle a b c e =
+    ≈-trans (⊕-assoc a b (c ⊕ e)) (≈-trans (⊕-cong (≈-refl a) (⊕-swap b c e)) (≈-sym (⊕-assoc a c (b ⊕ e))))
+
+pub ⊖-⊕-⊖ : (a b c e : Fraction) → (a ⊖ b) ⊕ (c ⊖ e) ≈ (a ⊕ c) ⊖ (b ⊕ e)
+unfolding _⊖_
+⊖-⊕-⊖ a b c e =
+    ≈-trans (⊕-middle a (negate b) c (negate e)) (⊕-cong (≈-refl (a ⊕ c)) (≈-sym (negate-⊕ b e)))
+
+pub ⊖-⊖-⊖ : (a b c e : Fraction) → (a ⊖ b) ⊖ (c ⊖ e) ≈ (a ⊕ e) ⊖ (b ⊕ c)
+⊖-⊖-⊖ a b c e =
+    ≈-trans (⊖-is (a ⊖ b) (c ⊖ e)) (≈-trans (⊕-cong (≈-refl (a ⊖ b)) (negate-⊖ c e)) (⊖-⊕-⊖ a b e c))
+
+pub ⊖-shift : (x y z : Fraction) → (x ⊕ z) ⊖ (y ⊕ z) ≈ x ⊖ y
+⊖-shift x y z =
+    ≈-trans (≈-sym (⊖-⊕-⊖ x y z z)) (≈-trans (⊕-cong (≈-refl (x ⊖ y)) (⊖-self z)) (⊕-zero (x ⊖ y)))
+
+-- two differences are equal where the sums across are
+pub ⊖-balance : (a b c e : Fraction) → a ⊕ e ≈ c ⊕ b → a ⊖ b ≈ c ⊖ e
+⊖-balance a b c e h =
+    ≈-trans (≈-sym (⊖-shift a b e)) (≈-trans (⊖-cong h (⊕-comm b e)) (⊖-shift c e b))
