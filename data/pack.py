@@ -1,5 +1,5 @@
 #!/usr/bin/env python3
-"""Makes data/terms.bin, the packed terms, from data/table5.txt.  Assumes rows of the text table's form; refuses others."""
+"""Makes data/terms.bin, the packed terms, from data/table5.txt.  Assumes nothing: a row of another form is refused."""
 
 import os
 import re

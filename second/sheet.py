@@ -9,7 +9,9 @@ ZERO = (0, 0)
 def down(bits, p, q=1, e=0):
     """The greatest sheet number that is not above p/q times 2^e, for q above zero."""
     if q != 1:
-        p, e = stand_in(bits, p, q, e)
+        # more digits of the quotient than a sheet number has, cut downward: no sheet number is passed over
+        shift = max(0, bits + 1 + q.bit_length() - p.bit_length())
+        p, e = (p << shift) // q, e - shift
     if p == 0:
         return ZERO
     cut = p.bit_length() - bits
@@ -25,16 +27,6 @@ def up(bits, p, q=1, e=0):
     """The least sheet number that is not below: down, seen in the mirror at zero."""
     m, e = down(bits, -p, q, e)
     return (-m, e)
-
-
-def stand_in(bits, p, q, e):
-    """A whole number times a power of two that lies between the same sheet numbers as p/q times 2^e.
-
-    The quotient gets more digits than a sheet number has; where digits remain, half a unit stands for them.
-    """
-    shift = max(0, bits + 2 + q.bit_length() - p.bit_length())
-    digits, rest = divmod(p << shift, q)
-    return 2 * digits + (rest != 0), e - shift - 1
 
 
 def negated(s):

@@ -1,4 +1,4 @@
-"""Calls of the three public functions with any bytes and any f64s, 3,000 and more (fields as in stream.py).  Assumes the seed below.
+"""Calls of the three public functions with any input, over 3,000 (fields as in stream.py).  Assumes the seed below.
 
 Record: function (0 state sheet, 1 density check, 2 pair check), a table of 0 to 600 bytes, five f64s, those not
 named being 0:
@@ -29,7 +29,8 @@ def a_table(random):
     if kind < 3:
         return samples.table5()
     if kind < 7:
-        return samples.sound_table(random, random.choice([1, 3, 12]), random.choice([samples.term, samples.gentle_term]))
+        kind = random.choice([samples.term, samples.gentle_term])
+        return samples.sound_table(random, random.choice([1, 3, 12]), kind)
     if kind < 9:
         return samples.damaged_table(random, random.randint(1, 3))
     return random.getrandbits(4800).to_bytes(600, "big")[:random.randint(0, 600)]

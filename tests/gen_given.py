@@ -1,4 +1,4 @@
-"""Numbers on their way in and out of sheet numbers, 1,500 of each kind (fields as in stream.py).  Assumes the seed below.
+"""Numbers on their way in and out of sheet numbers, 1,500 a kind (fields as in stream.py).  Assumes the seed below.
 
 Record, 7 words: kind, then six words, those not named being 0.
   0  a fraction: sign (1 for negative), numerator, divisor, both from 1 to 10^17   line: its bracket, 6 words
@@ -15,7 +15,7 @@ from second.bracket import given
 from second.exact import at_most
 from second.sheet import ZERO, exact
 from second.tests import samples
-from stream import record, run_of, words_of, words_of_bracket
+from stream import Reader, record, run_of, words_of, words_of_bracket
 
 EACH = 1500
 DECIMALS = [(64714, 100), (46151805, 100000), (1, 3), (1, 10), (322, 1), (10 ** 17, 10 ** 16), (1, 10 ** 16)]
@@ -51,19 +51,17 @@ def records():
 
 
 def answer(reader):
-    kind, fields = reader.word(), reader.place
-    reader.place += 48
-    within = type(reader)(reader.data[fields:reader.place])
+    kind, fields = reader.word(), Reader(reader.take(48))
     if kind == 0:
-        negative, p, q = within.word(), within.word(), within.word()
+        negative, p, q = fields.word(), fields.word(), fields.word()
         return words_of_bracket(given(32, -p if negative else p, q))
     if kind == 1:
-        return words_of_bracket(given(32, *f64.exact(within.word())))
+        return words_of_bracket(given(32, *f64.exact(fields.word())))
     if kind == 2:
-        return words_of_bracket(given(32, within.word()))
+        return words_of_bracket(given(32, fields.word()))
     if kind == 3:
-        return [f64.of_sheet(within.sheet())]
-    return [int(at_most(exact(within.sheet()), exact(within.sheet())))]
+        return [f64.of_sheet(fields.sheet())]
+    return [int(at_most(exact(fields.sheet()), exact(fields.sheet())))]
 
 
 def runs():

@@ -20,7 +20,8 @@ DIVIDE = f64.word(322.0)
 
 
 def liquid(random):
-    return random.choice([samples.between(random, 322.01, 1288), samples.above(DIVIDE), f64.word(1288.0), f64.word(644.0)])
+    return random.choice([samples.between(random, 322.01, 1288), samples.above(DIVIDE), f64.word(1288.0),
+                          f64.word(644.0)])
 
 
 def vapour(random):

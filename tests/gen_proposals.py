@@ -110,7 +110,8 @@ def all_runs():
         yield run(table, [anywhere(random), odd(random, anywhere(random))], random.choice([b"", b"\1"]))
     for length in range(40):  # cut at every byte, after none, one or two whole proposals
         tail = random.getrandbits(320).to_bytes(40, "big")[:length]
-        yield run(random.choice([water, None, bytes(9)]), [odd(random, anywhere(random)) for _ in range(length % 3)], tail)
+        table = random.choice([water, None, bytes(9)])
+        yield run(table, [odd(random, anywhere(random)) for _ in range(length % 3)], tail)
 
 
 def runs():

@@ -19,7 +19,7 @@ def tables():
     random = Random(105)
     for length in range(601):
         yield b"".join(packed(samples.term(random)) for _ in range(67))[:length]
-        yield random.getrandbits(8 * length).to_bytes(length, "big") if length else b""
+        yield random.getrandbits(8 * length).to_bytes(length, "big")
     yield samples.table5()
     for _ in range(SOUND):
         yield samples.sound_table(random, random.choice([1, 4, 64]))

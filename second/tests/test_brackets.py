@@ -37,7 +37,8 @@ def test_the_rule_holds_what_it_should():
         products = [x * y for x in xs for y in ys]
         assert a * b == Bracket(6, *(given(6, p.numerator, p.denominator)[i] for i, p in
                                      ((1, min(products)), (2, max(products)))))
-        assert holds(a * b, sum(xs) / 2 * sum(ys) / 2) and holds(a - b, xs[0] - ys[1]) and holds(a + b, sum(xs) / 2 + ys[0])
+        x, y = sum(xs) / 2, sum(ys) / 2
+        assert holds(a * b, x * y) and holds(a - b, x - y) and holds(a + b, x + y)
 
 
 def test_power_by_recursion():

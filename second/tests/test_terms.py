@@ -4,7 +4,9 @@ import os
 import random as randoms
 import subprocess
 import sys
+import tempfile
 
+import pack
 from second.term import MOST, Term, breaks_a_rule, first_broken, packed, sound_length, terms_of, unpacked
 from second.tests import samples
 
@@ -51,14 +53,11 @@ def test_first_broken_place():
 
 
 def test_terms_bin_is_what_the_script_makes():
-    sys.path.insert(0, os.path.join(samples.ROOT, "data"))
-    import pack
     assert pack.terms() == samples.table5()
     assert len(samples.table5()) == 38 * 9 and samples.table5()[-9:] == ROW_38 and first_broken(samples.table5()) == 0
 
 
 def test_the_script_refuses_other_rows():
-    import pack
     for row in ("3 5 15 -0.1216139400e-1", "3 5 15 +0.1216139400e-1\n", "3 5 15 0.0216139400e-1\n",
                 "3 5 015 0.1216139400e-1\n", "3 5 25 0.1216139400e-1\n", "3 5 15 0.1216139400e-7\n",
                 "3  5 15 0.1216139400e-1\n", "3 0 15 0.1216139400e-1\n", "4 5 15 0.1216139400e-1\n"):
@@ -70,7 +69,6 @@ def test_the_script_refuses_other_rows():
 
 
 def test_the_program_runs_from_any_directory():
-    import tempfile
     with tempfile.TemporaryDirectory() as folder:
         run = subprocess.run([sys.executable, os.path.join(samples.ROOT, "second")], cwd=folder, input=b"abc",
                              stdout=subprocess.PIPE, check=True)

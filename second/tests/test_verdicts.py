@@ -3,8 +3,8 @@
 import struct
 
 from second import f64
-from second.bench import lines
-from second.equation import phase, pressure
+from second.bench import line, lines
+from second.equation import gibbs_gap_of, phase, pressure
 from second.exact import fraction
 from second.panel import chosen
 from second.sheet import exact
@@ -165,14 +165,35 @@ def test_gap_must_lie_within():
 
 
 def test_first_failing_stiffness():
-    """A term that makes only the liquid, only the vapour, or both soft; equal pressures are not needed at WIDE."""
+    """The liquid is asked first, and the vapour too."""
+    # both on the inner branch
     answer = pair_check(table5(), W(640.0), W(323.0), W(321.0), WIDE, WIDE)
     assert answer.number == 11
     assert answer.ends == state_sheet(table5(), W(640.0), W(323.0)).ends[2:]
-    # both densities at nearly the same pressure, liquid stiff, vapour on the inner branch
+    # the liquid is stiff, the vapour is on the inner branch
     answer = pair_check(table5(), W(640.0), W(483.0), W(321.0), WIDE, WIDE)
     assert answer.number == 11
     assert answer.ends == state_sheet(table5(), W(640.0), W(321.0)).ends[2:]
+
+
+def test_stiffness_of_exactly_zero_does_not_pass():
+    half = packed(Term(0, 1, 0, 1, 5 * 10 ** 15))  # coefficient -1/2, at density 322
+    state = state_sheet(half, W(300.0), W(322.0))
+    assert state.number == 0 and state.ends[2:] == (0, 0)
+    assert density_check(half, W(300.0), W(322.0), state.ends[0], WIDE) == Answer(11, 0, (0, 0))
+
+
+def test_gibbs_gap_is_asked_after_pressure():
+    proposal = W(640.0), W(483.0), W(177.0)
+    gap = gibbs_gap_of(32, terms_of(table5()), *map(f64.exact, proposal))
+    assert pair_check(table5(), *proposal, 0, 0).number == 9
+    assert pair_check(table5(), *proposal, WIDE, 0) == Answer(10, 0, (f64.of_sheet(gap.lower), f64.of_sheet(gap.upper)))
+    assert pair_check(table5(), *proposal, WIDE, WIDE).ends == state_sheet(table5(), W(640.0), W(177.0)).ends[:2]
+
+
+def test_line():
+    assert line(10, Answer(9, 0, (0xC0ABCDEF01234567, 10))) == "10 9 0 c0abcdef01234567 000000000000000a"
+    assert line(1, Answer(2, 64, (0, 0))) == "1 2 64 0000000000000000 0000000000000000"
 
 
 def test_choices():
