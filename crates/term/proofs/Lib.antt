@@ -1,0 +1,10 @@
+pub mod Joined
+pub mod Fields
+pub mod Places
+pub mod Rules
+pub mod First
+pub mod Answers
+pub mod Terms
+pub mod Packing
+pub mod Reading
+pub mod Cases

@@ -1,0 +1,30 @@
+-- How a term is packed: its fields as pieces, and the pieces' number as nine bytes; and a list of terms packed into a table. Assumes nothing.
+use Prim.Native.Nat.{ℕ, zero, suc, _*_, _/_, _%_, _^_}
+use mathlib.Core.List.{List, [], _∷_, _++_}
+use mathlib.Core.Bool.{cond}
+use Rattle.term.specs.declared.Term.{Term}
+use Rattle.term.specs.Pieces.{Piece, joined}
+
+-- the lowest n bytes of a number, the most significant byte foremost
+unfoldable pub bytesOf : ℕ → ℕ → List ℕ
+bytesOf zero x = []
+bytesOf (suc n) x = x / 2 ^ (8 * n) % 2 ^ 8 ∷ bytesOf n x
+
+-- "The packed term": c in 2 bits, d in 4, t in 5, the sign in 1, set for negative, and the magnitude in 60
+unfoldable pub pieces : Term → List Piece
+pieces term =
+    record { bits = 2; value = term .c }
+    ∷ record { bits = 4; value = term .d }
+    ∷ record { bits = 5; value = term .t }
+    ∷ record { bits = 1; value = cond (term .negative) 1 0 }
+    ∷ record { bits = 60; value = term .magnitude }
+    ∷ []
+
+-- a term as its nine bytes
+unfoldable pub pack : Term → List ℕ
+pack term = bytesOf 9 (joined (pieces term))
+
+-- terms packed one behind the other
+unfoldable pub packTable : List Term → List ℕ
+packTable [] = []
+packTable (term ∷ rest) = pack term ++ packTable rest

@@ -1,0 +1,12 @@
+-- Row 38 of the coefficient table: document 01 gives its nine bytes and its fields. Assumes nothing.
+use Prim.Native.Nat.{ℕ}
+use mathlib.Core.List.{List, [], _∷_}
+use mathlib.Core.Bool.{true}
+use Rattle.term.specs.declared.Term.{Term}
+
+unfoldable pub row38 : List ℕ
+row38 = 0xD5 ∷ 0xF0 ∷ 0x00 ∷ 0x6E ∷ 0x9B ∷ 0x73 ∷ 0xB1 ∷ 0x85 ∷ 0x00 ∷ []
+
+-- the coefficient -0.1216139400 x 10^-1 in units of 10^-16
+unfoldable pub fields38 : Term
+fields38 = record { c = 3; d = 5; t = 15; negative = true; magnitude = 121_613_940_000_000 }
