@@ -1,0 +1,103 @@
+// Which f64s the inputs accept, and comparisons, by exact value. Each contract is an equation with a rule of specs/.
+ghost use mathlib.Core.Path.{_≡_};
+ghost use mathlib.Core.Bool.{not};
+ghost use lib.Dec.{T};
+ghost use lib.Ieee.Scale.{finite};
+ghost use Rattle.exact.specs.Fraction.{nat, leq};
+ghost use Rattle.doubles.specs.Double.{exactOf};
+ghost use Rattle.doubles.specs.Range.{within, acceptedTemperature, acceptedDensity, acceptedTarget, acceptedTolerance, withinTolerance};
+
+// Whether x, any f64, is finite and from low to high, ends included.
+pub fn lies_within(x: f64, low: f64, high: f64) -> bool
+    requires { ⌜ T (finite low) ⌝ }
+    requires { ⌜ T (finite high) ⌝ }
+    ensures { λ r. ⌜ r ≡ within (exactOf low) (exactOf high) x ⌝ }
+{
+    if low <= x { x <= high } else { false }
+}
+
+pub fn accepts_temperature(t: f64) -> bool
+    ensures { λ r. ⌜ r ≡ acceptedTemperature t ⌝ }
+{
+    lies_within(t, 273.0, 1273.0)
+}
+
+// From 1/1024.
+pub fn accepts_density(rho: f64) -> bool
+    ensures { λ r. ⌜ r ≡ acceptedDensity rho ⌝ }
+{
+    lies_within(rho, 0.0009765625, 1288.0)
+}
+
+pub fn accepts_target(p: f64) -> bool
+    ensures { λ r. ⌜ r ≡ acceptedTarget p ⌝ }
+{
+    lies_within(p, 0.0, 1000000000.0)
+}
+
+pub fn accepts_tolerance(x: f64) -> bool
+    ensures { λ r. ⌜ r ≡ acceptedTolerance x ⌝ }
+{
+    lies_within(x, 0.0, 1000000.0)
+}
+
+pub fn at_most(x: f64, y: f64) -> bool
+    requires { ⌜ T (finite x) ⌝ }
+    requires { ⌜ T (finite y) ⌝ }
+    ensures { λ r. ⌜ r ≡ leq (exactOf x) (exactOf y) ⌝ }
+{
+    x <= y
+}
+
+pub fn above(x: f64, y: f64) -> bool
+    requires { ⌜ T (finite x) ⌝ }
+    requires { ⌜ T (finite y) ⌝ }
+    ensures { λ r. ⌜ r ≡ not (leq (exactOf x) (exactOf y)) ⌝ }
+{
+    x > y
+}
+
+// A liquid lies above the critical density 322, a vapour below it.
+pub fn above_critical(rho: f64) -> bool
+    requires { ⌜ T (finite rho) ⌝ }
+    ensures { λ r. ⌜ r ≡ not (leq (exactOf rho) (nat 322)) ⌝ }
+{
+    above(rho, 322.0)
+}
+
+pub fn below_critical(rho: f64) -> bool
+    requires { ⌜ T (finite rho) ⌝ }
+    ensures { λ r. ⌜ r ≡ not (leq (nat 322) (exactOf rho)) ⌝ }
+{
+    above(322.0, rho)
+}
+
+pub fn above_zero(x: f64) -> bool
+    requires { ⌜ T (finite x) ⌝ }
+    ensures { λ r. ⌜ r ≡ not (leq (exactOf x) (nat 0)) ⌝ }
+{
+    above(x, 0.0)
+}
+
+// Refusal 8's limit on a pressure's upper end.
+pub fn above_pressure_limit(x: f64) -> bool
+    requires { ⌜ T (finite x) ⌝ }
+    ensures { λ r. ⌜ r ≡ not (leq (exactOf x) (nat 1000000000)) ⌝ }
+{
+    above(x, 1000000000.0)
+}
+
+// A gap's two ends against its tolerance.
+pub fn passes(lower: f64, upper: f64, tolerance: f64) -> bool
+    requires { ⌜ T (finite lower) ⌝ }
+    requires { ⌜ T (finite upper) ⌝ }
+    requires { ⌜ T (finite tolerance) ⌝ }
+    ensures { λ r. ⌜ r ≡ withinTolerance (exactOf lower) (exactOf upper) (exactOf tolerance) ⌝ }
+{
+    let least = -tolerance;
+    if least <= lower {
+        upper <= tolerance
+    } else {
+        false
+    }
+}

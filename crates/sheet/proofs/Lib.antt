@@ -1,0 +1,17 @@
+pub mod Gaps
+pub mod Digits
+pub mod Places
+pub mod Rounding
+pub mod Signed
+pub mod Spelling
+pub mod Laws
+pub mod Operations
+pub mod Live
+pub mod Compare
+pub mod Sums
+pub mod Addends
+pub mod Divisions
+pub mod Measures
+pub mod Ranges
+pub mod Closed
+pub mod Cases

@@ -1,0 +1,33 @@
+-- `sheet::add::added` meets its contract. Assumes nothing.
+use mathlib.Core.Path.{_≡_, sym, _∙_}
+use Prim.Native.Nat.{ℕ, _+_, _*_, _^_, _≤_, _<_}
+use native.Mathlib.Omega.{arith}
+use Rattle.sheet.specs.Range.{extent}
+use Rattle.sheet.proofs.Addends.{Pair, pair}
+use Rattle.sheet.proofs.Sums.{place-add}
+use Rattle.sheet.proofs.Operations.{sum-same}
+use Rattle.sheet.proofs.add.added.Statement.{statement}
+use Rattle.sheet.proofs.add.added.Tie as tie
+
+aligned-requires : tie.Need-aligned-requires
+aligned-requires c κs = (c .pre .0 .some, pair (c .args .a) (c .args .b) (c .pre .0) .place)
+
+add-rounded : tie.Need-add-rounded
+add-rounded c =
+    let p = pair (c .before .args .a) (c .before .args .b) (c .before .pre .0) in
+    omega (arith, p .small, p .small₂, c .aligned .ensures .small)
+
+rounded-requires : tie.Need-rounded-requires
+rounded-requires c κs =
+    let p = pair (c .before .args .a) (c .before .args .b) (c .before .pre .0) in
+    record { full = λ _ _. omega (arith, p .full); room = omega (arith, p .high) }
+
+returns : tie.Need-returns
+returns c =
+    let k = c .before .before .args in
+    let x = c .before .aligned in
+    c .rounded .ensures (extent (k .a) + extent (k .b)) 1 (place-add (k .a .m) (x .result .m) (x .result .sticky) (k .a .e) (extent (k .b)) (x .ensures .found))
+    ∙ sym (sum-same (k .up) 31 (k .a) (k .b) (c .before .before .pre .1))
+
+pub added-spec : {M : Type 1} → statement M
+added-spec = tie.close (tie.spec aligned-requires add-rounded rounded-requires returns)

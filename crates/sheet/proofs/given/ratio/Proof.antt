@@ -1,0 +1,34 @@
+-- `sheet::given::ratio` meets its contract. Assumes nothing.
+use mathlib.Core.Path.{_≡_, sym, _∙_, subst}
+use Prim.Native.Nat.{ℕ, _*_, _^_}
+use borrow.Author.Needs.{needs}
+use Rattle.sheet.specs.Number.{bias}
+use Rattle.sheet.specs.Steps.{Dividing}
+use Rattle.sheet.proofs.Live.{bias-is}
+use Rattle.sheet.proofs.Divisions.{division-place}
+use Rattle.sheet.proofs.Operations.{ratio-is, ratio-zero}
+use Rattle.sheet.proofs.given.ratio.Statement.{statement}
+use Rattle.sheet.proofs.given.ratio.Tie as tie
+
+returns : tie.Need-returns
+returns c =
+    let k = c .before .args in
+    sym (ratio-zero (k .up) 31 (k .neg) (k .num) (k .den) (c .if1 .taken))
+
+long-division-requires : tie.Need-long-division-requires
+long-division-requires c κs = search needs
+
+rounded-requires : tie.Need-rounded-requires
+rounded-requires c κs = search needs
+
+returns-2 : tie.Need-returns-2
+returns-2 c =
+    let s = c .before .before .before in
+    let k = s .args in
+    let x = c .before .long-division in
+    let d = subst (λ (i : ℕ). Dividing (k .num) (k .den) i (x .result)) (sym bias-is) (x .ensures .found) in
+    c .rounded .ensures (k .num * 2 ^ bias) (k .den) (division-place (k .num) (k .den) bias (x .result) d)
+    ∙ sym (ratio-is (k .up) 31 (k .neg) (k .num) (k .den) (s .pre .0))
+
+pub ratio-spec : {M : Type 1} → statement M
+ratio-spec = tie.close (tie.spec returns long-division-requires rounded-requires returns-2)

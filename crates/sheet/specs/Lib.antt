@@ -1,0 +1,5 @@
+pub mod Magnitude
+pub mod Number
+pub mod Round
+pub mod Range
+pub mod Steps

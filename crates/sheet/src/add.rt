@@ -1,0 +1,121 @@
+// The sum and the difference of two sheet numbers, rounded once. An addend that lies far below still moves the result: it is word of what
+// was cut. Assumes nothing.
+use crate::Sheet;
+use crate::order::negated;
+use crate::order::not_above;
+use crate::place::Found;
+use crate::place::cut;
+use crate::place::rounded;
+ghost use mathlib.Core.Path.{_≡_};
+ghost use mathlib.Core.Bool.{not};
+ghost use Prim.Native.Nat.{_<_, _≤_};
+ghost use Rattle.exact.specs.Fraction.{_⊕_, _⊖_};
+ghost use Rattle.sheet.specs.Number.{value};
+ghost use Rattle.sheet.specs.Round.{round};
+ghost use Rattle.sheet.specs.Range.{InRange};
+ghost use Rattle.sheet.specs.Steps.{Aligned, Addends};
+
+// The digits of m · 2^e at a place not below e.
+fn aligned(m: u64, e: u64, to: u64) -> Found
+    requires { ⌜ (0 < m) × (e ≤ to) ⌝ }
+    ensures { λ r. ⌜ Aligned m e to r ⌝ }
+{
+    let t = to - e;
+    if t < 64 {
+        cut(
+            Found {
+                m,
+                sticky: false,
+                e,
+            },
+            t,
+        )
+    } else {
+        Found {
+            m: 0,
+            sticky: true,
+            e: to,
+        }
+    }
+}
+
+// Two numbers of one sign: the digits of the lower one at the place of the higher are added.
+fn added(up: bool, a: Sheet, b: Sheet) -> Sheet
+    requires { ⌜ Addends a b × (a .neg ≡ b .neg) ⌝ }
+    ensures { λ r. ⌜ r ≡ round up 32 (value a ⊕ value b) ⌝ }
+{
+    let am = a.m;
+    let ae = a.e;
+    let x = aligned(b.m, b.e, ae);
+    let q = x.m;
+    rounded(up, a.neg, am + q, x.sticky, ae)
+}
+
+// Two numbers of different signs, at one place: nothing is cut.
+fn level(up: bool, a: Sheet, b: Sheet) -> Sheet
+    requires { ⌜ Addends a b × (b .neg ≡ not (a .neg)) × (a .e ≡ b .e) ⌝ }
+    ensures { λ r. ⌜ r ≡ round up 32 (value a ⊕ value b) ⌝ }
+{
+    let am = a.m;
+    let bm = b.m;
+    rounded(up, a.neg, am - bm, false, a.e)
+}
+
+// Two numbers of different signs, at different places: the digits of the lower one, one place below those of the higher, are taken away;
+// where something was cut, one more is taken and the rest stays.
+fn taken(up: bool, a: Sheet, b: Sheet) -> Sheet
+    requires { ⌜ Addends a b × (b .neg ≡ not (a .neg)) × (b .e < a .e) ⌝ }
+    ensures { λ r. ⌜ r ≡ round up 32 (value a ⊕ value b) ⌝ }
+{
+    let am = a.m;
+    let ae = a.e;
+    let x = aligned(b.m, b.e, ae - 1);
+    let q = x.m;
+    if x.sticky {
+        rounded(up, a.neg, am * 2 - q - 1, true, ae - 1)
+    } else {
+        rounded(up, a.neg, am * 2 - q, false, ae - 1)
+    }
+}
+
+// The greater magnitude comes first.
+fn ordered(up: bool, a: Sheet, b: Sheet) -> Sheet
+    requires { ⌜ Addends a b ⌝ }
+    ensures { λ r. ⌜ r ≡ round up 32 (value a ⊕ value b) ⌝ }
+{
+    if a.neg == b.neg {
+        return added(up, a, b);
+    }
+    let ae = a.e;
+    let be = b.e;
+    if ae == be {
+        return level(up, a, b);
+    }
+    taken(up, a, b)
+}
+
+pub fn sum(up: bool, a: Sheet, b: Sheet) -> Sheet
+    requires { ⌜ InRange a × InRange b ⌝ }
+    ensures { λ r. ⌜ r ≡ round up 32 (value a ⊕ value b) ⌝ }
+{
+    let am = a.m;
+    let bm = b.m;
+    if am == 0 {
+        return b;
+    }
+    if bm == 0 {
+        return a;
+    }
+    if not_above(b.m, b.e, a.m, a.e) {
+        ordered(up, a, b)
+    } else {
+        ordered(up, b, a)
+    }
+}
+
+pub fn difference(up: bool, a: Sheet, b: Sheet) -> Sheet
+    requires { ⌜ InRange a × InRange b ⌝ }
+    ensures { λ r. ⌜ r ≡ round up 32 (value a ⊖ value b) ⌝ }
+{
+    sum(up, a, negated(b))
+}

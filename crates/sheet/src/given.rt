@@ -1,0 +1,84 @@
+// Given values: a fraction of two numbers by long division, place by place, and a whole number. Assumes nothing.
+use crate::Sheet;
+use crate::place::rounded;
+ghost use mathlib.Core.Path.{_≡_};
+ghost use mathlib.Core.Bool.{false};
+ghost use Prim.Native.Nat.{_*_, _^_, _<_, _≤_};
+ghost use Rattle.exact.specs.Fraction.{nat, parts};
+ghost use Rattle.sheet.specs.Round.{round};
+ghost use Rattle.sheet.specs.Steps.{BroughtDown, Divided};
+
+// A long division on its way: the digits found, what is left over, and the place.
+pub struct Division {
+    pub digits: u64,
+    pub rest: u64,
+    pub place: u64,
+}
+
+// One more digit.
+fn brought_down(x: Division, den: u64) -> Division
+    requires { ⌜ (x .digits < 2 ^ 62) × (x .rest < den) × (den ≤ 2 ^ 63) × (0 < x .place) ⌝ }
+    ensures { λ r. ⌜ BroughtDown den x r ⌝ }
+{
+    let digits = x.digits * 2;
+    let twice = x.rest * 2;
+    let place = x.place - 1;
+    if twice < den {
+        Division {
+            digits,
+            rest: twice,
+            place,
+        }
+    } else {
+        Division {
+            digits: digits + 1,
+            rest: twice - den,
+            place,
+        }
+    }
+}
+
+// Digits are brought down until there are 32, or no place is left below.
+fn long_division(num: u64, den: u64, from: u64) -> Division
+    requires { ⌜ (0 < den) × (den ≤ 2 ^ 63) ⌝ }
+    ensures { λ r. ⌜ Divided 31 num den from r ⌝ }
+{
+    let mut x = Division {
+        digits: num / den,
+        rest: num % den,
+        place: from,
+    };
+    while x.digits < 2147483648 {
+        let place = x.place;
+        if place == 0 {
+            return x;
+        }
+        x = brought_down(x, den);
+    }
+    x
+}
+
+// num / den with a sign.
+pub fn ratio(up: bool, neg: bool, num: u64, den: u64) -> Sheet
+    requires { ⌜ (0 < den) × (den ≤ 2 ^ 63) ⌝ }
+    ensures { λ r. ⌜ r ≡ round up 32 (parts neg num den) ⌝ }
+{
+    if num == 0 {
+        return Sheet {
+            neg: false,
+            m: 0,
+            e: 0,
+        };
+    }
+    let x = long_division(num, den, 262144);
+    let rest = x.rest;
+    rounded(up, neg, x.digits, rest != 0, x.place)
+}
+
+// A whole number of at most 32 digits is exact, so that one direction serves for both.
+pub fn whole(n: u64) -> Sheet
+    requires { ⌜ n < 2 ^ 32 ⌝ }
+    ensures { λ r. ⌜ r ≡ round false 32 (nat n) ⌝ }
+{
+    rounded(false, false, n, false, 262144)
+}

@@ -1,0 +1,25 @@
+// Sheet numbers of 32 bits (01, "Sheet numbers and brackets"): rounding, sum, difference, product, quotient, comparison and negation of
+// single ends, and given values. Every function's contract is the rule itself: down or up of the exact result. Assumes nothing.
+mod add; // add.rt: sum and difference
+mod divide; // divide.rt: the quotient
+mod given; // given.rt: fractions and whole numbers
+mod multiply; // multiply.rt: the product
+mod order; // order.rt: comparison and negation
+mod place; // place.rt: digits at a place are cut, opened and rounded
+
+pub use add::difference;
+pub use add::sum;
+pub use divide::quotient;
+pub use given::ratio;
+pub use given::whole;
+pub use multiply::product;
+pub use order::at_most;
+pub use order::negated;
+pub use place::rounded;
+
+// ± m · 2^e in units of 2^-262144; zero is { false, 0, 0 }
+pub struct Sheet {
+    pub neg: bool,
+    pub m: u64,
+    pub e: u64,
+}
