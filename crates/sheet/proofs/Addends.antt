@@ -1,17 +1,17 @@
 -- The addends of a sum, the greater first: both have all their digits, and the first stands no lower. Assumes nothing.
-use mathlib.Core.Path.{_≡_, refl, sym, ap, _∙_, subst}
+use mathlib.Core.Path.{_≡_, sym, ap, _∙_}
 use mathlib.Core.Logic.{⊎-elim}
-use mathlib.Core.Bool.{Bool, true, false}
-use Prim.Native.Nat.{ℕ, suc, _+_, _-_, _*_, _/_, _^_, _≤_, _<_}
-use native.Mathlib.Nat.{mul-pos, zero-mul, mul-one, div-one, div-mul-le-self, mul-le-mul-left, pow-succ'}
+use mathlib.Core.Bool.{true}
+use Prim.Native.Nat.{ℕ, suc, _-_, _*_, _/_, _^_, _≤_, _<_}
+use native.Mathlib.Nat.{mul-pos, zero-mul, div-one, div-mul-le-self, mul-le-mul-left, pow-succ'}
 use native.Mathlib.Omega.{arith}
 use lib.Pow.{pow-pos, pow-mono}
 use Rattle.sheet.specs.declared.Sheet.{Sheet}
-use Rattle.sheet.specs.Magnitude.{Place, Fit, Cut}
-use Rattle.sheet.specs.Range.{InRange, extent}
+use Rattle.sheet.specs.Magnitude.{Place, Cut}
+use Rattle.sheet.specs.Range.{extent}
 use Rattle.sheet.specs.Steps.{Addends}
 use Rattle.sheet.proofs.Gaps.{zero-or-pos}
-use Rattle.sheet.proofs.Live.{bias-is, Live, live}
+use Rattle.sheet.proofs.Live.{bias-is, live}
 use Rattle.sheet.proofs.Compare.{place-order}
 
 pub record Pair (a b : Sheet) : Type 0 where

@@ -1,11 +1,10 @@
 -- 01's proved cases of down and up, P1 to P8, by computation; the places are counted from the bottom, so 2^-33 is 262111. Assumes nothing.
-use mathlib.Core.Path.{_≡_, refl, sym, ap, _∙_, subst}
+use mathlib.Core.Path.{_≡_, refl, _∙_, subst}
 use mathlib.Core.Bool.{Bool, true, false}
-use Prim.Native.Nat.{ℕ, _*_, _^_}
 use native.Mathlib.Omega.{arith}
 use lib.Dec.{lit<, lit≤}
 use lib.Ieee.{size, span, climb}
-use Rattle.exact.specs.Fraction.{Fraction, nat, parts, _⊖_, _≈_}
+use Rattle.exact.specs.Fraction.{nat, parts, _⊖_, _≈_}
 use Rattle.exact.specs.Fraction.Order.{≈-refl, ≈-sym}
 use Rattle.exact.specs.Fraction.Sum.{⊖-cong}
 use Rattle.sheet.specs.declared.Sheet.{Sheet}

@@ -1,16 +1,16 @@
 -- Roundings of numbers that are written out: the digits are found on small numbers and raised to their place, so that a case computes.
 -- Assumes nothing.
-use mathlib.Core.Path.{_≡_, refl, sym, ap, _∙_, subst}
-use mathlib.Core.Bool.{Bool, true, false, not, xor}
+use mathlib.Core.Path.{_≡_, refl, sym, ap, _∙_}
+use mathlib.Core.Bool.{Bool, false, not, xor}
 use Prim.Native.Nat.{ℕ, suc, _+_, _-_, _*_, _^_, _≤_, _<_}
-use native.Mathlib.Nat.{mul-one, mul-comm, mul-sub, mul-assoc, mul-le-mul-right}
+use native.Mathlib.Nat.{mul-comm, mul-sub, mul-assoc, mul-le-mul-right}
 use native.Mathlib.Omega.{arith}
-use lib.Pow.{pow-add, pow-pos}
-use Rattle.exact.specs.Fraction.{Fraction, nat, parts, _⊕_, _⊖_, _⊗_, _⊘_}
+use lib.Pow.{pow-add}
+use Rattle.exact.specs.Fraction.{nat, parts, _⊕_, _⊖_, _⊗_, _⊘_}
 use Rattle.exact.specs.Fraction.Order.{≈-sym}
 use Rattle.exact.specs.Fraction.Parts.{parts-nat}
 use Rattle.sheet.specs.declared.Sheet.{Sheet}
-use Rattle.sheet.specs.Magnitude.{Magnitude, roundMag, raise}
+use Rattle.sheet.specs.Magnitude.{roundMag, raise}
 use Rattle.sheet.specs.Number.{bias, value, signed, negateSheet}
 use Rattle.sheet.specs.Round.{away, round}
 use Rattle.sheet.specs.Range.{extent}

@@ -1,19 +1,19 @@
 -- Comparing sheet numbers by place and digits. Assumes nothing.
-use mathlib.Core.Path.{_≡_, refl, sym, ap, _∙_, subst}
-use mathlib.Core.Logic.{_⊎_, ⊎-elim}
+use mathlib.Core.Path.{_≡_, refl, sym, ap, _∙_}
+use mathlib.Core.Logic.{⊎-elim}
 use mathlib.Core.Bool.{Bool, true, false, true≢false}
-use Prim.Native.Nat.{ℕ, zero, suc, _+_, _*_, _^_, _≤_, _<_}
-use native.Mathlib.Nat.{le-trans, lt-of-lt-of-le, le-of-lt, mul-le-mul-right, mul-le-mul-left, mul-lt-mul-of-pos-right, mul-pos, le-of-mul-le-mul-right, pos-of-ne-zero, pow-succ'}
+use Prim.Native.Nat.{ℕ, suc, _*_, _^_, _≤_, _<_}
+use native.Mathlib.Nat.{mul-le-mul-right, mul-le-mul-left, mul-lt-mul-of-pos-right, mul-pos, pos-of-ne-zero, pow-succ'}
 use native.Mathlib.Omega.{arith}
 use borrow.Author.Tests.{le-leb, lt-leb, leb-true, leb-false}
 use lib.Dec.{leb}
 use lib.Pow.{pow-pos}
-use Rattle.exact.specs.Fraction.{Fraction, nat, parts, leq, _≼_, _≺_}
+use Rattle.exact.specs.Fraction.{parts, leq}
 use Rattle.exact.specs.Fraction.Order.{≼-leq, ≺-leq}
 use Rattle.exact.specs.Fraction.Parts.{parts-≼, parts-≼-below, parts-≼-across, parts-≺, parts-≺-below, parts-≺-across}
 use Rattle.sheet.specs.declared.Sheet.{Sheet}
 use Rattle.sheet.specs.Magnitude.{Fit}
-use Rattle.sheet.specs.Number.{bias, value, Spelled}
+use Rattle.sheet.specs.Number.{bias, Spelled}
 use Rattle.sheet.specs.Range.{extent}
 use Rattle.sheet.proofs.Gaps.{pow-le-split, le-or-lt}
 

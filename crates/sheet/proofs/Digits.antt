@@ -1,13 +1,13 @@
 -- The leading digits of a number are found: whatever place meets the number is the place that `lead` takes. Assumes nothing.
-use mathlib.Core.Path.{_≡_, refl, sym, ap, ap₂, _∙_, subst}
+use mathlib.Core.Path.{_≡_}
 use mathlib.Core.Logic.{⊎-elim}
-use Prim.Native.Nat.{ℕ, zero, suc, _+_, _-_, _*_, _/_, _^_, _≤_, _<_}
-use native.Mathlib.Nat.{le-trans, le-antisymm, lt-of-le-of-lt, lt-of-lt-of-le, mul-le-mul-right, div-eq-of-lt-le, div-one, lt-of-not-le, not-le-of-lt}
+use Prim.Native.Nat.{ℕ, suc, _+_, _-_, _*_, _/_, _^_, _≤_, _<_}
+use native.Mathlib.Nat.{le-trans, le-antisymm, lt-of-lt-of-le, mul-le-mul-right, div-eq-of-lt-le, lt-of-not-le, not-le-of-lt}
 use native.Mathlib.Omega.{arith}
-use lib.Pow.{pow-add, pow-pos, pow-mono}
+use lib.Pow.{pow-add, pow-mono}
 use lib.Ieee.{size}
-use lib.Ieee.Digits.{size-lt, size-reaches, size-le}
-use Rattle.sheet.specs.Magnitude.{Magnitude, lead, units, Fit}
+use lib.Ieee.Digits.{size-lt, size-le}
+use Rattle.sheet.specs.Magnitude.{lead, Fit}
 use Rattle.sheet.proofs.Gaps.{zero-or-pos}
 
 size-is : (n j : ℕ) → 2 ^ j ≤ n → n < 2 ^ suc j → size n ≡ suc j

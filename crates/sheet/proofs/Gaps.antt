@@ -1,12 +1,12 @@
 -- Numbers of few digits among all numbers: no m · 2^c with at most suc v digits lies strictly between two neighbours M · 2^k and
 -- (M + 1) · 2^k of suc v digits. Assumes nothing.
-use mathlib.Core.Path.{_≡_, refl, sym, ap, _∙_, subst}
+use mathlib.Core.Path.{_≡_, refl, sym, ap, _∙_}
 use mathlib.Core.Logic.{_⊎_, inl, inr, ⊎-elim}
-use Prim.Native.Nat.{ℕ, zero, suc, _+_, _-_, _*_, _/_, _^_, _≤_, _<_}
-use native.Mathlib.Nat.{le-dest, lt-of-not-le, mul-le-mul-left, mul-le-mul-right, mul-lt-mul-of-pos-right, lt-of-mul-lt-mul-right, le-of-mul-le-mul-right, lt-of-lt-of-le, mul-pos, le-of-lt, pow-succ'}
+use Prim.Native.Nat.{ℕ, zero, suc, _+_, _*_, _^_, _≤_, _<_}
+use native.Mathlib.Nat.{le-dest, lt-of-not-le, mul-le-mul-right, lt-of-mul-lt-mul-right, le-of-lt, pow-succ'}
 use native.Mathlib.Decide.{decLe}
 use native.Mathlib.Omega.{arith}
-use lib.Pow.{pow-add, pow-pos, pow-mono}
+use lib.Pow.{pow-add, pow-pos}
 
 pub le-or-lt : (a b : ℕ) → (a ≤ b) ⊎ (b < a)
 le-or-lt a b = go (decLe a b)

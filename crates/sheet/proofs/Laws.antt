@@ -1,22 +1,22 @@
 -- The laws of down and up over the count of bits, suc v: each is unique, the functions meet them, they keep the order, mirror each other,
 -- leave a sheet number as it is, look only at the value, and go through a power of two. Assumes nothing.
-use mathlib.Core.Path.{_≡_, refl, sym, ap, ap₂, _∙_, subst}
-use mathlib.Core.Logic.{_⊎_, inl, inr, ⊎-elim}
-use mathlib.Core.Bool.{Bool, true, false, not, _&&_, cond, xor}
-use Prim.Native.Nat.{ℕ, zero, suc, _+_, _-_, _*_, _/_, _^_, _≤_, _<_}
-use native.Mathlib.Nat.{le-trans, le-of-eq, mul-pos, mul-one, zero-mul, mul-zero, eq-of-mul-eq-mul-right}
+use mathlib.Core.Path.{_≡_, refl, ap, _∙_}
+use mathlib.Core.Logic.{inl, inr, ⊎-elim}
+use mathlib.Core.Bool.{Bool, true, false, not, _&&_, xor}
+use Prim.Native.Nat.{ℕ, suc, _+_, _*_, _^_, _≤_, _<_}
+use native.Mathlib.Nat.{mul-one, zero-mul}
 use native.Mathlib.Omega.{arith}
-use borrow.Author.Tests.{eq-eqb, ne-eqb, eqb-true, eqb-false}
+use borrow.Author.Tests.{ne-eqb}
 use lib.Dec.{eqb}
 use lib.Pow.{pow-pos, pow-add}
-use Rattle.exact.specs.Fraction.{Fraction, nat, parts, negative, top, bottom, negate, _⊗_, _≼_, _≺_, _≈_}
-use Rattle.exact.specs.Fraction.Order.{≼-refl, ≼-trans, ≼-antisym, ≼-not-≺, ≈→≼, ≈→≽, ≈-refl, ≈-sym, ≈-trans, ≈-≼-trans, ≼-≈-trans, ≈-≺-trans, ≺-≈-trans, ≼-resp}
+use Rattle.exact.specs.Fraction.{Fraction, nat, parts, negative, top, bottom, negate, _⊗_, _≼_, _≈_}
+use Rattle.exact.specs.Fraction.Order.{≼-trans, ≼-antisym, ≼-not-≺, ≈→≼, ≈→≽, ≈-refl, ≈-sym, ≈-trans, ≈-≼-trans, ≼-≈-trans}
 use Rattle.exact.specs.Fraction.Sum.{negate-cong}
 use Rattle.exact.specs.Fraction.Product.{⊗-cong}
-use Rattle.exact.specs.Fraction.Parts.{parts-≈, parts-≼-across, ≼-parts-zero, parts-zero, parts-nat, parts-nonneg, parts-nonpos, parts-negate, parts-⊗, bottom-pos, as-parts, negative-true, negative-false, negative-top}
+use Rattle.exact.specs.Fraction.Parts.{parts-≈, parts-≼-across, ≼-parts-zero, parts-zero, parts-nat, parts-nonneg, parts-negate, parts-⊗, bottom-pos, as-parts, negative-true}
 use Rattle.sheet.specs.declared.Sheet.{Sheet}
-use Rattle.sheet.specs.Magnitude.{Magnitude, units, roundMag, Side, Fit, raise}
-use Rattle.sheet.specs.Number.{bias, value, plainZero, signed, negateSheet, raiseSheet, Digits, Normal, Spelled, SheetNumber, nought, number}
+use Rattle.sheet.specs.Magnitude.{Magnitude, units, roundMag, Side, raise}
+use Rattle.sheet.specs.Number.{bias, value, plainZero, signed, negateSheet, raiseSheet, Normal, Spelled, SheetNumber, nought, number}
 use Rattle.sheet.specs.Round.{IsDown, IsUp, away, round, down, up, Reached}
 use Rattle.sheet.proofs.Gaps.{zero-or-pos}
 use Rattle.sheet.proofs.Rounding.{round-fit, round-full, round-side, round-best, round-own, round-zero, round-raise}
@@ -189,11 +189,31 @@ pub up-is : (v : ℕ) (x : Fraction) → Reached v x → IsUp v x (up (suc v) x)
 unfolding Sided
 up-is v x r = record { normal = round-normal true v x r; above = up-ge v x; least = λ y n h. best-number true v x y r n h }
 
+-- so whatever meets a predicate is the function's answer
+pub down-only : (v : ℕ) {x : Fraction} {s : Sheet} → Reached v x → IsDown v x s → s ≡ down (suc v) x
+down-only v {x} r p = down-unique p (down-is v x r)
+
+pub up-only : (v : ℕ) {x : Fraction} {s : Sheet} → Reached v x → IsUp v x s → s ≡ up (suc v) x
+up-only v {x} r p = up-unique p (up-is v x r)
+
 -- ---- the order
 
 pub round-mono : (up : Bool) (v : ℕ) {x y : Fraction} → x ≼ y → value (round up (suc v) x) ≼ value (round up (suc v) y)
 round-mono false v {x} {y} h = down-greatest v y (down (suc v) x) (round-spelled false v x) (≼-trans (down-le v x) h)
 round-mono true v {x} {y} h = up-least v x (up (suc v) y) (round-spelled true v y) (≼-trans h (up-ge v y))
+
+-- a short number bounds the rounding of what it bounds
+pub round-le-short : (up : Bool) (v : ℕ) {x y : Fraction} (s : Bool) (m k : ℕ) → m < 2 ^ suc v → y ≈ parts s (m * 2 ^ k) (2 ^ bias) → x ≼ y → value (round up (suc v) x) ≼ y
+round-le-short up v {x} {y} s m k l e h = ≼-≈-trans (round-mono up v h) (round-short up v y s m k l e)
+
+pub short-le-round : (up : Bool) (v : ℕ) {x y : Fraction} (s : Bool) (m k : ℕ) → m < 2 ^ suc v → y ≈ parts s (m * 2 ^ k) (2 ^ bias) → y ≼ x → y ≼ value (round up (suc v) x)
+short-le-round up v {x} {y} s m k l e h = ≈-≼-trans (≈-sym (round-short up v y s m k l e)) (round-mono up v h)
+
+pub round-le-whole : (up : Bool) (v n : ℕ) {x : Fraction} → n < 2 ^ suc v → x ≼ nat n → value (round up (suc v) x) ≼ nat n
+round-le-whole up v n l h = ≼-≈-trans (round-mono up v h) (round-whole up v n l)
+
+pub whole-le-round : (up : Bool) (v n : ℕ) {x : Fraction} → n < 2 ^ suc v → nat n ≼ x → nat n ≼ value (round up (suc v) x)
+whole-le-round up v n l h = ≈-≼-trans (≈-sym (round-whole up v n l)) (round-mono up v h)
 
 -- ---- only the value counts
 

@@ -1,3 +1,4 @@
+-- The laws of sheet numbers, from digits up to measures, and 01's cases. Assumes nothing.
 pub mod Gaps
 pub mod Digits
 pub mod Places
@@ -12,6 +13,8 @@ pub mod Sums
 pub mod Addends
 pub mod Divisions
 pub mod Measures
+pub mod Extents
 pub mod Ranges
 pub mod Closed
 pub mod Cases
+pub mod Sizes

@@ -1,9 +1,9 @@
 -- A number in range that is not zero: its digits and its exponent. Assumes nothing.
 use mathlib.Core.Path.{_≡_, refl, ap}
-use mathlib.Core.Logic.{_⊎_, inl, inr, ⊎-elim}
+use mathlib.Core.Logic.{inl, inr}
 use Prim.Native.Nat.{ℕ, suc, _+_, _^_, _≤_, _<_}
 use Rattle.sheet.specs.declared.Sheet.{Sheet}
-use Rattle.sheet.specs.Number.{bias, plainZero, signed, negateSheet, Digits, Normal}
+use Rattle.sheet.specs.Number.{bias, plainZero, signed, negateSheet, Normal}
 use Rattle.sheet.specs.Range.{Exponent, Within}
 
 pub bias-is : bias ≡ 262144

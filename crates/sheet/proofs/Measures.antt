@@ -1,15 +1,14 @@
 -- Measures of one number: what a span or a grain says of it, and what they say of a sheet number's exponent. Assumes nothing.
-use mathlib.Core.Path.{_≡_, refl, sym, ap, _∙_, subst}
+use mathlib.Core.Path.{_≡_, sym, subst}
 use mathlib.Core.Logic.{_⊎_, inl, inr, ⊎-elim}
-use Prim.Native.Nat.{ℕ, zero, suc, _+_, _-_, _*_, _^_, _≤_, _<_, _∣_}
-use native.Mathlib.Nat.{le-trans, le-of-lt, lt-of-lt-of-le, lt-of-le-of-lt, lt-of-not-le, not-le-of-lt, le-of-eq, mul-le-mul-right, mul-lt-mul-of-pos-right, mul-one, dvd-trans, dvd-mul-right, dvd-mul-left-of-dvd, dvd-zero, dvd-add, dvd-sub, le-of-dvd}
+use Prim.Native.Nat.{ℕ, suc, _+_, _-_, _*_, _^_, _≤_, _<_, _∣_}
+use native.Mathlib.Nat.{le-trans, lt-of-le-of-lt, lt-of-not-le, not-le-of-lt, le-of-eq, mul-le-mul-right, mul-lt-mul-of-pos-right, mul-one, dvd-trans, dvd-mul-right, dvd-mul-left-of-dvd, dvd-zero, dvd-add, dvd-sub, le-of-dvd}
 use native.Mathlib.Omega.{arith}
 use lib.Pow.{pow-add, pow-pos, pow-mono}
 use Rattle.sheet.specs.declared.Sheet.{Sheet}
-use Rattle.sheet.specs.Magnitude.{Fit}
-use Rattle.sheet.specs.Number.{bias, plainZero, Digits, Normal, Spelled}
-use Rattle.sheet.specs.Range.{extent, Span, Grain, Exponent, Within, Doubled}
-use Rattle.sheet.proofs.Gaps.{pow-le-split, zero-or-pos, le-or-lt}
+use Rattle.sheet.specs.Number.{bias, Spelled}
+use Rattle.sheet.specs.Range.{extent, Span, Grain, Within, Doubled}
+use Rattle.sheet.proofs.Gaps.{pow-le-split, zero-or-pos}
 use Rattle.sheet.proofs.Spelling.{spelled-zero, extent-zero}
 
 -- ---- powers of two

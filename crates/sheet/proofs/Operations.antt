@@ -1,14 +1,14 @@
 -- The exact result of each operation on two sheet numbers, as a quotient of units with its sign, so that its rounding is that of a
 -- magnitude. Assumes nothing.
-use mathlib.Core.Path.{_≡_, refl, sym, ap, ap₂, _∙_, subst}
+use mathlib.Core.Path.{_≡_, refl, sym, ap, ap₂, _∙_}
 use mathlib.Core.Logic.{_⊎_, ⊎-elim}
 use mathlib.Core.Bool.{Bool, true, false, not, xor}
-use Prim.Native.Nat.{ℕ, zero, suc, _+_, _-_, _*_, _/_, _%_, _^_, _≤_, _<_}
-use native.Mathlib.Nat.{mul-pos, mul-le-mul-right, mul-sub, zero-mul, mul-one, mul-comm}
+use Prim.Native.Nat.{ℕ, suc, _+_, _-_, _*_, _^_, _≤_, _<_}
+use native.Mathlib.Nat.{mul-pos, mul-le-mul-right, mul-sub, zero-mul, mul-comm}
 use native.Mathlib.Omega.{arith}
 use lib.Pow.{pow-add, pow-pos}
-use Rattle.exact.specs.Fraction.{Fraction, nat, parts, negate, _⊕_, _⊖_, _⊗_, _⊘_, _≺_, _≈_}
-use Rattle.exact.specs.Fraction.Order.{≺-irrefl, ≼-not-≺, ≺-≈-trans, ≈-refl, ≈-sym, ≈-trans, ≈-of-≡}
+use Rattle.exact.specs.Fraction.{nat, parts, _⊕_, _⊖_, _⊗_, _⊘_, _≺_, _≈_}
+use Rattle.exact.specs.Fraction.Order.{≺-irrefl, ≼-not-≺, ≺-≈-trans, ≈-refl, ≈-sym, ≈-trans}
 use Rattle.exact.specs.Fraction.Sum.{⊕-comm, ⊕-cong, ⊖-is, ⊕-zero, zero-⊕}
 use Rattle.exact.specs.Fraction.Product.{⊗-cong, zero-⊗, ⊗-zero}
 use Rattle.exact.specs.Fraction.Quotient.{⊘-cong, zero-⊘}
@@ -19,7 +19,7 @@ use Rattle.sheet.specs.Number.{bias, value, plainZero, signed, negateShe
 use Rattle.sheet.specs.Round.{away, round}
 use Rattle.sheet.specs.Range.{extent}
 use Rattle.sheet.proofs.Gaps.{zero-or-pos}
-use Rattle.sheet.proofs.Signed.{round-parts, signed-zero}
+use Rattle.sheet.proofs.Signed.{round-parts}
 use Rattle.sheet.proofs.Laws.{round-resp, round-value, round-nought, negate-value}
 
 zero-value : (s : Sheet) → s .m ≡ 0 → value s ≈ nat 0

@@ -1,17 +1,17 @@
 -- Places: every quotient has one, whichever is found gives the rounding, and a place may be moved up and down. Assumes nothing.
-use mathlib.Core.Path.{_≡_, refl, sym, ap, ap₂, _∙_, subst}
+use mathlib.Core.Path.{_≡_, refl, sym, ap, subst}
 use mathlib.Core.Logic.{⊎-elim}
 use mathlib.Core.Bool.{Bool, true, false, not}
-use Prim.Native.Nat.{ℕ, zero, suc, _+_, _-_, _*_, _/_, _%_, _^_, _≤_, _<_}
-use native.Mathlib.Nat.{le-trans, le-of-eq, le-of-lt, le-refl, lt-of-le-of-lt, lt-of-lt-of-le, mul-le-mul-left, mul-le-mul-right, mul-lt-mul-of-pos-right, lt-of-mul-lt-mul-right, le-of-mul-le-mul-right, eq-of-mul-eq-mul-right, div-lt-iff-lt-mul, le-div-iff-mul-le, div-mul-le-self, lt-div-mul-add, mul-pos, mul-zero, zero-mul, add-zero, pow-succ', div-add-mod', mod-lt, pos-of-ne-zero}
+use Prim.Native.Nat.{ℕ, suc, _+_, _-_, _*_, _/_, _%_, _^_, _≤_, _<_}
+use native.Mathlib.Nat.{le-trans, le-of-eq, le-of-lt, lt-of-lt-of-le, mul-le-mul-right, mul-lt-mul-of-pos-right, lt-of-mul-lt-mul-right, eq-of-mul-eq-mul-right, div-lt-iff-lt-mul, le-div-iff-mul-le, div-mul-le-self, lt-div-mul-add, mul-pos, mul-zero, zero-mul, pow-succ', div-add-mod', mod-lt, pos-of-ne-zero}
 use native.Mathlib.Omega.{arith}
 use borrow.Author.Tests.{eq-eqb, ne-eqb, eqb-true, eqb-false}
 use lib.Dec.{eqb}
 use lib.Pow.{pow-add, pow-pos, pow-mono, shr-lt}
 use lib.Ieee.{size}
 use lib.Ieee.Digits.{size-lt, size-reaches}
-use Rattle.sheet.specs.Magnitude.{Magnitude, units, pick, lead, next, floorMag, ceilMag, roundMag, Cut, Place, Fit, finish}
-use Rattle.sheet.proofs.Gaps.{le-or-lt, zero-or-pos, gap}
+use Rattle.sheet.specs.Magnitude.{floorMag, ceilMag, roundMag, Cut, Place, Fit, finish}
+use Rattle.sheet.proofs.Gaps.{le-or-lt, zero-or-pos}
 use Rattle.sheet.proofs.Digits.{lead-is}
 
 pub cut-le : (s : Bool) (a n : ℕ) → Cut s a n → a ≤ n

@@ -1,96 +1,26 @@
--- How each operation moves the measures, over the count of bits: bounds by short numbers m · 2^j, spans between powers of two, grain, and the
--- distance of a sheet number from a coarse one. No law subtracts: each takes inequalities. Assumes nothing.
-use mathlib.Core.Path.{_≡_, refl, sym, ap, ap₂, _∙_, subst}
+-- How each operation moves the measures, over the count of bits: product, quotient, sum and difference, and the distance of a sheet number
+-- from a coarse one. No law subtracts: each takes inequalities that are closed where it is used. Assumes nothing.
+use mathlib.Core.Path.{_≡_, refl, sym, ap, _∙_, subst}
 use mathlib.Core.Logic.{_⊎_, inl, inr, ⊎-elim}
 use mathlib.Core.Bool.{Bool, true, false, not, xor}
-use Prim.Native.Nat.{ℕ, zero, suc, _+_, _-_, _*_, _/_, _^_, _≤_, _<_, _∣_}
-use native.Mathlib.Nat.{le-trans, le-of-eq, le-of-lt, lt-of-lt-of-le, lt-of-mul-lt-mul-right, mul-pos, mul-le-mul, mul-le-mul-left, mul-le-mul-right, mul-lt-mul-of-pos-right, zero-mul, mul-zero, mul-one, one-mul, mul-comm, mul-sub, dvd-mul-left, dvd-trans, dvd-mul-right, dvd-of-mul-dvd-mul-right, mul-dvd-mul, eq-of-mul-eq-mul-right, le-dest, div-mul-cancel, suc-add, pow-succ'}
+use Prim.Native.Nat.{ℕ, suc, _+_, _-_, _*_, _/_, _^_, _≤_, _<_, _∣_}
+use native.Mathlib.Nat.{le-trans, le-of-eq, le-of-lt, mul-pos, mul-le-mul, mul-le-mul-left, mul-le-mul-right, zero-mul, mul-zero, one-mul, dvd-mul-left, dvd-trans, dvd-of-mul-dvd-mul-right, mul-dvd-mul, le-dest, div-mul-cancel, suc-add, pow-succ'}
 use native.Mathlib.Omega.{arith}
 use lib.Pow.{pow-add, pow-pos, pow-mono}
 use Rattle.exact.specs.Fraction.{Fraction, nat, parts, negate, _⊕_, _⊖_, _⊗_, _⊘_, _≺_, _≈_}
-use Rattle.exact.specs.Fraction.Order.{≺-irrefl, ≼-not-≺, ≈-refl, ≈-sym, ≈-trans, ≺-≈-trans}
-use Rattle.exact.specs.Fraction.Sum.{⊕-comm, ⊕-cong, ⊖-is, negate-cong}
+use Rattle.exact.specs.Fraction.Order.{≺-irrefl, ≼-not-≺, ≈-trans, ≺-≈-trans}
+use Rattle.exact.specs.Fraction.Sum.{⊕-comm, ⊕-cong, ⊖-is}
 use Rattle.exact.specs.Fraction.Product.{⊗-cong}
 use Rattle.exact.specs.Fraction.Quotient.{⊘-cong}
-use Rattle.exact.specs.Fraction.Parts.{parts-≈, parts-⊗, parts-⊕, parts-⊕-less, parts-⊘, parts-nat, parts-zero, parts-negate, parts-nonpos}
+use Rattle.exact.specs.Fraction.Parts.{parts-≈, parts-⊗, parts-⊕, parts-⊕-less, parts-⊘, parts-zero, parts-nonpos}
 use Rattle.sheet.specs.declared.Sheet.{Sheet}
-use Rattle.sheet.specs.Magnitude.{Magnitude, units, roundMag, Place, Cut, Fit, finish}
-use Rattle.sheet.specs.Number.{bias, value, signed, Spelled}
+use Rattle.sheet.specs.Number.{bias, value, Spelled}
 use Rattle.sheet.specs.Round.{away, round}
 use Rattle.sheet.specs.Range.{extent, Size, Span, Grain}
 use Rattle.sheet.proofs.Gaps.{zero-or-pos, le-or-lt}
-use Rattle.sheet.proofs.Places.{Located, locate, round-place}
-use Rattle.sheet.proofs.Rounding.{keep-low, keep-high, round-zero, next-is}
-use Rattle.sheet.proofs.Signed.{round-parts}
 use Rattle.sheet.proofs.Laws.{round-resp}
-use Rattle.sheet.proofs.Measures.{pow-dvd, grain-shift, grain-zero, grain-add, grain-sub, grain-least, grain-coarser, pow-back}
-
--- ---- sizes
-
-pub size-value : (s : Sheet) → Size (value s) (extent s)
-unfolding value
-size-value s = record { neg = s .neg; is = ≈-refl _ }
-
-pub size-whole : (n : ℕ) → Size (nat n) (n * 2 ^ bias)
-size-whole n =
-    record { neg = false; is = ≈-trans (≈-sym (parts-nat n)) (parts-≈ false n 1 (n * 2 ^ bias) (2 ^ bias) (omega arith) (pow-pos bias) (omega arith)) }
-
-pub size-negate : {x : Fraction} {n : ℕ} → Size x n → Size (negate x) n
-size-negate {x} {n} s = record { neg = not (s .neg); is = ≈-trans (negate-cong (s .is)) (parts-negate (s .neg) n (2 ^ bias)) }
-
--- ---- the rounding of a quotient of units
-
-module _ (up : Bool) (v : ℕ) (x : Fraction) (s : Bool) (a b num den : ℕ) (pb : 0 < b) (pd : 0 < den) (e : x ≈ parts s a b) (q : num * b ≡ a * 2 ^ bias * den) where
-  extent-is : extent (round up (suc v) x) ≡ units (roundMag (away up s) (suc v) num den)
-  unfolding signed
-  extent-is = ap extent (round-parts up v x s a b num den pb pd e q)
-
-  most-of : (m k : ℕ) → m < 2 ^ suc v → num ≤ m * 2 ^ k * den → extent (round up (suc v) x) ≤ m * 2 ^ k
-  most-of m k l h = rw extent-is (keep-high (away up s) v num den pd m k l h)
-
-  least-of : (m k : ℕ) → m < 2 ^ suc v → m * 2 ^ k * den ≤ num → m * 2 ^ k ≤ extent (round up (suc v) x)
-  least-of m k l h = rw extent-is (keep-low (away up s) v num den pd m k l h)
-
-  zero-of : num ≡ 0 → extent (round up (suc v) x) ≡ 0
-  zero-of z = extent-is ∙ rw (z, round-zero (away up s) v den pd) (zero-mul (2 ^ 0))
-
-  one-short : 1 < 2 ^ suc v
-  one-short = let p = pow-pos v in omega arith
-
-  span-of : (l h : ℕ) → (num ≡ 0) ⊎ (2 ^ l * den ≤ num) → num ≤ 2 ^ h * den → Span l h (extent (round up (suc v) x))
-  span-of l h low high =
-      record {
-        least = ⊎-elim (λ z. inl (zero-of z)) (λ k. inr (le-trans (le-of-eq (sym (one-mul (2 ^ l)))) (least-of 1 l one-short (rw one-mul k)))) low;
-        most = le-trans (most-of 1 h one-short (rw one-mul high)) (le-of-eq (one-mul (2 ^ h)));
-      }
-
--- ---- grain through a rounding
-
--- a multiple of 2^e has nothing below the place e
-whole-place : (m e n : ℕ) → Place m true e n 1 → 2 ^ e ∣ n → ⊥
-unfolding Cut
-whole-place m e n p d =
-    let j : n / 2 ^ e * 2 ^ e ≡ n = div-mul-cancel (2 ^ e) d in
-    let l : m * 2 ^ e * 1 < n = p .low in
-    let k : m < n / 2 ^ e = lt-of-mul-lt-mul-right (2 ^ e) (let t : m * 2 ^ e < n / 2 ^ e * 2 ^ e = omega arith in t) in
-    let h : suc m * 2 ^ e ≤ n / 2 ^ e * 2 ^ e = mul-le-mul-right (2 ^ e) k in
-    omega (arith, p .high)
-
--- cutting digits of a whole number keeps every power of two that divides it
-finish-grain : (away s : Bool) (v m e n g : ℕ) → Fit v m e → Place m s e n 1 → Grain g n → Grain g (units (finish away s (suc v) (record { m = m; e = e })))
-unfolding finish Cut
-finish-grain true true v m e n g f p d =
-    rw (next-is v (record { m = m; e = e }) f .worth)
-    (⊎-elim (grain-shift g (m + 1) e) (λ l. absurd (whole-place m e n p (grain-coarser g e n (le-of-lt l) d .divides))) (le-or-lt g e))
-finish-grain false true v m e n g f p d =
-    ⊎-elim (grain-shift g m e) (λ l. absurd (whole-place m e n p (grain-coarser g e n (le-of-lt l) d .divides))) (le-or-lt g e)
-finish-grain true false v m e n g f p d = subst (Grain g) (sym (p .low) ∙ mul-one (m * 2 ^ e)) d
-finish-grain false false v m e n g f p d = subst (Grain g) (sym (p .low) ∙ mul-one (m * 2 ^ e)) d
-
-round-grain : (away : Bool) (v n g : ℕ) → Grain g n → Grain g (units (roundMag away (suc v) n 1))
-round-grain away v n g d =
-    let l = locate v n 1 (omega arith) in
-    rw (round-place away v (l .sticky) (l .fit) (l .place)) (finish-grain away (l .sticky) v (l .m) (l .e) n g (l .fit) (l .place) d)
+use Rattle.sheet.proofs.Measures.{pow-dvd, grain-shift, grain-add, grain-sub, grain-least, grain-coarser}
+use Rattle.sheet.proofs.Extents.{size-value, size-negate, extent-is, most-of, least-of, span-of, round-grain, size-most, size-least, size-grain}
 
 -- ---- product and quotient
 
@@ -198,27 +128,6 @@ module _ (up : Bool) (v : ℕ) {x y : Fraction} {n k : ℕ} (sx : Size x n) (sy 
       cut : n * k / 2 ^ bias * 2 ^ bias ≡ n * k
       cut = div-mul-cancel (2 ^ bias) (dvd-trans (2 ^ bias) (dvd-mul-left (2 ^ bias) (2 ^ g)) fine)
 
--- ---- a whole number of units
-
-module _ (up : Bool) (v : ℕ) {x : Fraction} {t : ℕ} (s : Size x t) where
-  whole-units : t * 2 ^ bias ≡ t * 2 ^ bias * 1
-  whole-units = omega arith
-
-  pub size-most : (m j : ℕ) → m < 2 ^ suc v → t ≤ m * 2 ^ j → extent (round up (suc v) x) ≤ m * 2 ^ j
-  size-most m j l h = most-of up v x (s .neg) t (2 ^ bias) t 1 (pow-pos bias) (omega arith) (s .is) whole-units m j l (omega arith)
-
-  pub size-least : (m j : ℕ) → m < 2 ^ suc v → m * 2 ^ j ≤ t → m * 2 ^ j ≤ extent (round up (suc v) x)
-  size-least m j l h = least-of up v x (s .neg) t (2 ^ bias) t 1 (pow-pos bias) (omega arith) (s .is) whole-units m j l (omega arith)
-
-  pub size-span : (l h : ℕ) → Span l h t → Span l h (extent (round up (suc v) x))
-  size-span l h p =
-      span-of up v x (s .neg) t (2 ^ bias) t 1 (pow-pos bias) (omega arith) (s .is) whole-units l h
-      (⊎-elim (λ z. inl z) (λ a. inr (omega arith)) (p .least)) (let q = p .most in omega arith)
-
-  pub size-grain : (g : ℕ) → Grain g t → Grain g (extent (round up (suc v) x))
-  size-grain g d =
-      rw (extent-is up v x (s .neg) t (2 ^ bias) t 1 (pow-pos bias) (omega arith) (s .is) whole-units) (round-grain (away up (s .neg)) v t g d)
-
 -- ---- sum and difference
 
 -- the size of a sum: the sizes together, or one less the other
@@ -301,6 +210,16 @@ module _ (up : Bool) (v : ℕ) {x y : Fraction} {n k : ℕ} (sx : Size x n) (sy 
   pub difference-sum : round up (suc v) (x ⊖ y) ≡ round up (suc v) (x ⊕ negate y)
   difference-sum = round-resp up v (⊖-is x y)
 
+  pub difference-most : (m j : ℕ) → m < 2 ^ suc v → n + k ≤ m * 2 ^ j → extent (round up (suc v) (x ⊖ y)) ≤ m * 2 ^ j
+  difference-most m j l h =
+      let t = sum-size sx (size-negate sy) in
+      rw difference-sum (size-most up v (t .1) m j l (le-trans (summed-most (t .2)) h))
+
+  pub difference-grain : (g : ℕ) → Grain g n → Grain g k → Grain g (extent (round up (suc v) (x ⊖ y)))
+  difference-grain g p q =
+      let t = sum-size sx (size-negate sy) in
+      rw difference-sum (size-grain up v (t .1) g (summed-grain g p q (t .2)))
+
   pub sum-turn : round up (suc v) (x ⊕ y) ≡ round up (suc v) (y ⊕ x)
   sum-turn = round-resp up v (⊕-comm x y)
 
@@ -344,3 +263,17 @@ near up v g c {x} {n} y s sx d p sy q h =
   where
     only-zero : extent (round up (suc v) (x ⊕ y)) ≤ 0 * 2 ^ 0 → extent (round up (suc v) (x ⊕ y)) ≡ 0
     only-zero l = omega arith
+
+-- the same of a difference, either way round
+pub near-less : (up : Bool) (v g c : ℕ) {x : Fraction} {n : ℕ} (s : Sheet) → Size x n → Grain c n → 0 < n → Spelled v s → g + suc v ≤ c
+    → (extent (round up (suc v) (x ⊖ value s)) ≡ 0) ⊎ (2 ^ g ≤ extent (round up (suc v) (x ⊖ value s)))
+near-less up v g c {x} {n} s sx d p q h =
+    subst (λ (r : Sheet). (extent r ≡ 0) ⊎ (2 ^ g ≤ extent r)) (sym (difference-sum up v sx (size-value s)))
+    (near up v g c (negate (value s)) s sx d p (size-negate (size-value s)) q h)
+
+pub near-from : (up : Bool) (v g c : ℕ) {x : Fraction} {n : ℕ} (s : Sheet) → Size x n → Grain c n → 0 < n → Spelled v s → g + suc v ≤ c
+    → (extent (round up (suc v) (value s ⊖ x)) ≡ 0) ⊎ (2 ^ g ≤ extent (round up (suc v) (value s ⊖ x)))
+near-from up v g c {x} {n} s sx d p q h =
+    subst (λ (r : Sheet). (extent r ≡ 0) ⊎ (2 ^ g ≤ extent r))
+    (sym (difference-sum up v (size-value s) sx ∙ sum-turn up v (size-value s) (size-negate sx)))
+    (near up v g c (value s) s (size-negate sx) d p (size-value s) q h)

@@ -1,18 +1,18 @@
 -- What the rounding of a magnitude is: the greatest of suc v digits not above the quotient, or the least not below it. Both keep the order,
 -- the quotient's own digits and every short number; they look at the quotient and not at how it is written. Assumes nothing.
-use mathlib.Core.Path.{_≡_, refl, sym, ap, ap₂, _∙_, subst}
-use mathlib.Core.Logic.{_⊎_, ⊎-elim}
-use mathlib.Core.Bool.{Bool, true, false, not}
-use Prim.Native.Nat.{ℕ, zero, suc, _+_, _-_, _*_, _/_, _%_, _^_, _≤_, _<_}
-use native.Mathlib.Nat.{le-trans, le-of-eq, le-of-lt, le-refl, lt-of-le-of-lt, lt-of-lt-of-le, mul-le-mul-left, mul-le-mul-right, mul-lt-mul-of-pos-right, lt-of-mul-lt-mul-right, le-of-mul-le-mul-right, eq-of-mul-eq-mul-right, mul-pos, mul-zero, zero-mul, mul-one, add-zero, pow-succ', pow-zero}
+use mathlib.Core.Path.{_≡_, refl, sym, ap, _∙_}
+use mathlib.Core.Logic.{⊎-elim}
+use mathlib.Core.Bool.{Bool, true, false}
+use Prim.Native.Nat.{ℕ, suc, _+_, _*_, _/_, _^_, _≤_, _<_}
+use native.Mathlib.Nat.{le-trans, le-of-eq, le-of-lt, le-refl, mul-le-mul-right, mul-lt-mul-of-pos-right, lt-of-mul-lt-mul-right, le-of-mul-le-mul-right, mul-pos, zero-mul, mul-one}
 use native.Mathlib.Omega.{arith}
 use borrow.Author.Tests.{eq-eqb, ne-eqb, eqb-true, eqb-false}
 use lib.Dec.{eqb}
 use lib.Pow.{pow-add, pow-pos}
-use Rattle.sheet.specs.Magnitude.{Magnitude, units, pick, next, floorMag, ceilMag, roundMag, Cut, Place, Fit, finish, Side, raise}
+use Rattle.sheet.specs.Magnitude.{Magnitude, units, pick, next, roundMag, Cut, Place, Fit, finish, Side, raise}
 use Rattle.sheet.proofs.Gaps.{le-or-lt, zero-or-pos, gap}
 use Rattle.sheet.proofs.Digits.{lead-is}
-use Rattle.sheet.proofs.Places.{cut-le, place-le, place-den, floor-place, round-place, Located, locate, place-ratio, place-scale, place-whole}
+use Rattle.sheet.proofs.Places.{place-le, place-den, round-place, Located, locate, place-ratio, place-scale}
 
 -- ---- the next magnitude
 

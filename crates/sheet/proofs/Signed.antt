@@ -1,20 +1,18 @@
 -- A magnitude with its sign: the value of `signed`, the order of signed quotients in one direction, and the rounding of whatever equals a
 -- signed quotient. Assumes nothing.
-use mathlib.Core.Path.{_≡_, refl, sym, ap, ap₂, _∙_, subst, subst₂}
-use mathlib.Core.Logic.{_⊎_, inl, inr, ⊎-elim}
+use mathlib.Core.Path.{_≡_, refl, ap, _∙_, subst₂}
+use mathlib.Core.Logic.{⊎-elim}
 use mathlib.Core.Bool.{Bool, true, false, not, _&&_, Bool·beq}
-use Prim.Native.Nat.{ℕ, zero, suc, _+_, _-_, _*_, _/_, _^_, _≤_, _<_}
-use native.Mathlib.Nat.{le-trans, le-of-eq, mul-le-mul-left, mul-le-mul-right, le-of-mul-le-mul-right, eq-of-mul-eq-mul-right, mul-pos, zero-mul, mul-zero}
+use Prim.Native.Nat.{ℕ, suc, _*_, _^_, _<_}
+use native.Mathlib.Nat.{mul-le-mul-right, le-of-mul-le-mul-right, eq-of-mul-eq-mul-right, zero-mul}
 use native.Mathlib.Omega.{arith}
-use borrow.Author.Tests.{eq-eqb, ne-eqb, eqb-true, eqb-false}
+use borrow.Author.Tests.{eq-eqb, ne-eqb, eqb-true}
 use lib.Dec.{eqb}
-use lib.Pow.{pow-pos}
-use Rattle.exact.specs.Fraction.{Fraction, nat, parts, negative, top, bottom, _≼_, _≺_, _≈_}
-use Rattle.exact.specs.Fraction.Order.{≼-refl, ≼-trans, ≼-not-≺, ≈→≼, ≈→≽, ≈-refl, ≈-sym, ≈-trans, ≈-of-≡, ≈-≼-trans, ≼-≈-trans, ≈-≺-trans, ≺-≈-trans}
-use Rattle.exact.specs.Fraction.Parts.{≈-parts, parts-≼, ≼-parts, parts-≼-below, ≼-parts-below, parts-≼-across, ≼-parts-zero, parts-zero, parts-nonneg, parts-nonpos, parts-pos, parts-neg, bottom-pos, as-parts, negative-true, negative-false, negative-top}
-use Rattle.sheet.specs.declared.Sheet.{Sheet}
+use Rattle.exact.specs.Fraction.{Fraction, nat, parts, negative, top, bottom, _≼_, _≈_}
+use Rattle.exact.specs.Fraction.Order.{≼-not-≺, ≈-refl, ≈-sym, ≈-trans, ≈-≼-trans, ≼-≈-trans, ≈-≺-trans, ≺-≈-trans}
+use Rattle.exact.specs.Fraction.Parts.{≈-parts, parts-≼, ≼-parts, parts-≼-below, ≼-parts-below, parts-zero, parts-nonneg, parts-nonpos, parts-pos, parts-neg, bottom-pos, as-parts, negative-true, negative-false}
 use Rattle.sheet.specs.Magnitude.{Magnitude, units, roundMag, Side}
-use Rattle.sheet.specs.Number.{bias, value, plainZero, signed}
+use Rattle.sheet.specs.Number.{bias, value, signed}
 use Rattle.sheet.specs.Round.{away, round}
 use Rattle.sheet.proofs.Gaps.{zero-or-pos}
 use Rattle.sheet.proofs.Rounding.{round-ratio, round-zero}

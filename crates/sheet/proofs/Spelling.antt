@@ -1,19 +1,19 @@
 -- One value has one spelling: two sheet numbers of suc v bits with equal values are the same. Assumes nothing.
-use mathlib.Core.Path.{_≡_, refl, sym, ap, _∙_, subst}
-use mathlib.Core.Logic.{_⊎_, inl, inr, ⊎-elim}
+use mathlib.Core.Path.{_≡_, refl, sym, _∙_, subst}
+use mathlib.Core.Logic.{inl, inr, ⊎-elim}
 use mathlib.Core.Bool.{Bool, true, false, not, _&&_, true≢false}
-use Prim.Native.Nat.{ℕ, zero, suc, _+_, _*_, _^_, _≤_, _<_}
-use native.Mathlib.Nat.{mul-pos, zero-mul, eq-of-mul-eq-mul-right}
+use Prim.Native.Nat.{ℕ, suc, _*_, _^_, _<_}
+use native.Mathlib.Nat.{zero-mul, eq-of-mul-eq-mul-right}
 use native.Mathlib.Omega.{arith}
 use borrow.Author.Tests.{eqb-true, eq-eqb}
 use lib.Dec.{eqb}
 use lib.Pow.{pow-pos}
-use Rattle.exact.specs.Fraction.{Fraction, nat, parts, _≼_, _≺_, _≈_}
-use Rattle.exact.specs.Fraction.Order.{≼-not-≺, ≈→≼, ≈→≽, ≈-sym, ≈-trans, ≈-≼-trans, ≼-≈-trans}
-use Rattle.exact.specs.Fraction.Parts.{≈-parts, parts-zero, parts-pos, parts-neg, parts-nonneg, parts-nonpos}
+use Rattle.exact.specs.Fraction.{_≈_}
+use Rattle.exact.specs.Fraction.Order.{≼-not-≺, ≈-sym, ≼-≈-trans}
+use Rattle.exact.specs.Fraction.Parts.{≈-parts, parts-neg, parts-nonneg}
 use Rattle.sheet.specs.declared.Sheet.{Sheet}
-use Rattle.sheet.specs.Magnitude.{Magnitude, units, Fit}
-use Rattle.sheet.specs.Number.{bias, value, plainZero, signed, negateSheet, Digits, Normal, Spelled, SheetNumber, nought, number}
+use Rattle.sheet.specs.Magnitude.{Magnitude, Fit}
+use Rattle.sheet.specs.Number.{bias, value, plainZero, signed, Normal, Spelled}
 use Rattle.sheet.proofs.Gaps.{zero-or-pos}
 use Rattle.sheet.proofs.Rounding.{fit-unique}
 

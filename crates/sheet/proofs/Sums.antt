@@ -1,13 +1,11 @@
 -- Places of a sum and of a difference: digits of one number added to, or taken from, the digits of another at one place. Assumes nothing.
-use mathlib.Core.Path.{_≡_, refl, sym, ap, _∙_, subst}
+use mathlib.Core.Path.{_≡_, ap}
 use mathlib.Core.Bool.{Bool, true, false}
-use Prim.Native.Nat.{ℕ, zero, suc, _+_, _-_, _*_, _^_, _≤_, _<_}
-use native.Mathlib.Nat.{le-dest, le-of-eq, le-of-lt, lt-of-lt-of-le, mul-pos, mul-lt-mul-of-pos-right, mul-le-mul-right, mul-le-mul-left, lt-of-mul-lt-mul-right, le-of-mul-le-mul-right}
+use Prim.Native.Nat.{ℕ, suc, _+_, _-_, _*_, _^_, _≤_, _<_}
+use native.Mathlib.Nat.{le-dest, mul-pos, mul-lt-mul-of-pos-right, lt-of-mul-lt-mul-right, le-of-mul-le-mul-right}
 use native.Mathlib.Omega.{arith}
 use lib.Pow.{pow-add, pow-pos, pow-mono}
 use Rattle.sheet.specs.Magnitude.{Place, Cut}
-use Rattle.sheet.proofs.Gaps.{pow-le-split}
-use Rattle.sheet.proofs.Places.{place-le}
 
 pub place-add : (m q : ℕ) (s : Bool) (e n : ℕ) → Place q s e n 1 → Place (m + q) s e (m * 2 ^ e + n) 1
 unfolding Cut

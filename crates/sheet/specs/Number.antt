@@ -2,7 +2,7 @@
 -- held from the bottom, in units of 2^-bias, so that it is never negative. Assumes nothing.
 use mathlib.Core.Path.{_≡_}
 use mathlib.Core.Logic.{_⊎_}
-use mathlib.Core.Bool.{Bool, true, false, not, _&&_, cond}
+use mathlib.Core.Bool.{Bool, false, not, _&&_, cond}
 use Prim.Native.Nat.{ℕ, suc, _+_, _*_, _^_, _≤_, _<_}
 use lib.Dec.{eqb}
 use Rattle.exact.specs.Fraction.{Fraction, nat, parts}

@@ -2,7 +2,7 @@
 -- (01: exponents stay between -20,000 and 20,000). Assumes nothing.
 use mathlib.Core.Path.{_≡_}
 use mathlib.Core.Logic.{_⊎_}
-use Prim.Native.Nat.{ℕ, suc, _+_, _-_, _*_, _^_, _≤_, _<_, _∣_}
+use Prim.Native.Nat.{ℕ, _+_, _-_, _*_, _^_, _≤_, _<_, _∣_}
 use mathlib.Core.Bool.{Bool}
 use Rattle.exact.specs.Fraction.{Fraction, parts, _≈_}
 use Rattle.sheet.specs.declared.Sheet.{Sheet}

@@ -1,8 +1,7 @@
 -- Down and up (01, "Sheet numbers and brackets"): what each must be, and the functions that the rules use. Both are directions on the
 -- number line: up of a number below zero goes toward zero. Assumes nothing.
-use mathlib.Core.Path.{_≡_}
 use mathlib.Core.Bool.{Bool, true, false, not}
-use Prim.Native.Nat.{ℕ, suc, _+_, _*_, _^_, _≤_, _<_}
+use Prim.Native.Nat.{ℕ, _*_, _^_, _≤_, _<_}
 use Rattle.exact.specs.Fraction.{Fraction, negative, top, bottom, _≼_}
 use Rattle.sheet.specs.declared.Sheet.{Sheet}
 use Rattle.sheet.specs.Magnitude.{roundMag}

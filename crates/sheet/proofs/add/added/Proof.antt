@@ -1,9 +1,9 @@
 -- `sheet::add::added` meets its contract. Assumes nothing.
-use mathlib.Core.Path.{_≡_, sym, _∙_}
-use Prim.Native.Nat.{ℕ, _+_, _*_, _^_, _≤_, _<_}
+use mathlib.Core.Path.{sym, _∙_}
+use Prim.Native.Nat.{_+_}
 use native.Mathlib.Omega.{arith}
 use Rattle.sheet.specs.Range.{extent}
-use Rattle.sheet.proofs.Addends.{Pair, pair}
+use Rattle.sheet.proofs.Addends.{pair}
 use Rattle.sheet.proofs.Sums.{place-add}
 use Rattle.sheet.proofs.Operations.{sum-same}
 use Rattle.sheet.proofs.add.added.Statement.{statement}

@@ -1,5 +1,5 @@
 -- `sheet::add::difference` meets its contract. Assumes nothing.
-use mathlib.Core.Path.{_≡_, sym, ap, _∙_, subst}
+use mathlib.Core.Path.{sym, ap, _∙_, subst}
 use borrow.Author.Needs.{needs}
 use Rattle.exact.specs.Fraction.{_⊕_}
 use Rattle.sheet.specs.declared.Sheet.{Sheet}

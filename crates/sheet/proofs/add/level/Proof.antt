@@ -1,5 +1,5 @@
 -- `sheet::add::level` meets its contract. Assumes nothing.
-use mathlib.Core.Path.{_≡_, sym, ap, _∙_, subst}
+use mathlib.Core.Path.{_≡_, sym, _∙_, subst}
 use mathlib.Core.Bool.{false}
 use Prim.Native.Nat.{ℕ, _-_, _*_, _^_, _≤_}
 use native.Mathlib.Nat.{le-of-mul-le-mul-right}
@@ -9,7 +9,7 @@ use Rattle.sheet.specs.declared.Sheet.{Sheet}
 use Rattle.sheet.specs.Magnitude.{Place}
 use Rattle.sheet.specs.Range.{extent}
 use Rattle.sheet.specs.Steps.{Addends}
-use Rattle.sheet.proofs.Addends.{Pair, pair}
+use Rattle.sheet.proofs.Addends.{pair}
 use Rattle.sheet.proofs.Places.{place-whole}
 use Rattle.sheet.proofs.Sums.{place-take}
 use Rattle.sheet.proofs.Operations.{sum-less}

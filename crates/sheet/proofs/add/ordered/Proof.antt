@@ -1,10 +1,10 @@
 -- `sheet::add::ordered` meets its contract, by the signs and the places. Assumes nothing.
-use mathlib.Core.Path.{_≡_, refl, sym}
+use mathlib.Core.Path.{_≡_, refl}
 use mathlib.Core.Bool.{Bool, true, false, not, Bool·beq, false≢true, true≢false}
 use Prim.Native.Nat.{ℕ, _≤_, _<_}
 use native.Mathlib.Omega.{arith}
 use borrow.Author.Needs.{needs}
-use Rattle.sheet.proofs.Addends.{Pair, pair}
+use Rattle.sheet.proofs.Addends.{pair}
 use Rattle.sheet.proofs.add.ordered.Statement.{statement}
 use Rattle.sheet.proofs.add.ordered.Tie as tie
 

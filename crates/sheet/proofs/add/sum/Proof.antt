@@ -1,6 +1,5 @@
 -- `sheet::add::sum` meets its contract. Assumes nothing.
-use mathlib.Core.Path.{_≡_, sym, _∙_}
-use Prim.Native.Nat.{ℕ, _*_, _^_}
+use mathlib.Core.Path.{sym, _∙_}
 use native.Mathlib.Nat.{pos-of-ne-zero, le-of-lt}
 use borrow.Author.Needs.{needs}
 use borrow.Author.Tests.{leb-true, leb-false}

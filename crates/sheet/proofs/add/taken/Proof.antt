@@ -1,7 +1,7 @@
 -- `sheet::add::taken` meets its contract. Assumes nothing.
-use mathlib.Core.Path.{_≡_, refl, sym, ap, _∙_, subst}
+use mathlib.Core.Path.{_≡_, sym, _∙_, subst}
 use mathlib.Core.Bool.{Bool, true, false, false≢true}
-use Prim.Native.Nat.{ℕ, suc, _+_, _-_, _*_, _^_, _≤_, _<_}
+use Prim.Native.Nat.{ℕ, _+_, _-_, _*_, _^_, _≤_, _<_}
 use native.Mathlib.Omega.{arith}
 use borrow.Author.Needs.{needs}
 use Rattle.sheet.specs.declared.Sheet.{Sheet}
@@ -9,7 +9,7 @@ use Rattle.sheet.specs.declared.place.Found.{Found}
 use Rattle.sheet.specs.Magnitude.{Place}
 use Rattle.sheet.specs.Range.{extent}
 use Rattle.sheet.specs.Steps.{Addends, Aligned}
-use Rattle.sheet.proofs.Addends.{Pair, pair, double, short}
+use Rattle.sheet.proofs.Addends.{pair, double, short}
 use Rattle.sheet.proofs.Sums.{place-take, place-take-rest}
 use Rattle.sheet.proofs.Operations.{sum-less}
 use Rattle.sheet.proofs.add.taken.Statement.{statement}

@@ -1,14 +1,14 @@
 -- `sheet::divide::quotient` meets its contract. Assumes nothing.
-use mathlib.Core.Path.{_≡_, sym, ap, _∙_}
+use mathlib.Core.Path.{_≡_, sym, _∙_}
 use mathlib.Core.Bool.{false}
-use Prim.Native.Nat.{ℕ, _+_, _-_, _*_, _/_, _^_, _≤_, _<_}
+use Prim.Native.Nat.{_+_, _-_, _*_, _/_, _^_, _≤_, _<_}
 use native.Mathlib.Nat.{le-div-iff-mul-le}
 use native.Mathlib.Omega.{arith}
 use Rattle.exact.specs.Fraction.{nat, _≺_}
 use Rattle.sheet.specs.declared.Sheet.{Sheet}
 use Rattle.sheet.specs.Number.{bias, value}
 use Rattle.sheet.specs.Range.{InRange}
-use Rattle.sheet.proofs.Live.{bias-is, Live, live}
+use Rattle.sheet.proofs.Live.{bias-is, live}
 use Rattle.sheet.proofs.Places.{place-div}
 use Rattle.sheet.proofs.Operations.{quotient-is, quotient-zero, above-zero}
 use Rattle.sheet.proofs.divide.quotient.Statement.{statement}

@@ -1,10 +1,9 @@
 -- `sheet::given::long_division` meets its contract. The loop's invariant: what is found and what is left over are the whole quotient.
 -- Assumes nothing.
-use mathlib.Core.Path.{_≡_}
-use Prim.Native.Nat.{ℕ, _+_, _*_, _^_, _≤_, _<_}
+use Prim.Native.Nat.{_≤_}
 use native.Mathlib.Nat.{pos-of-ne-zero}
 use native.Mathlib.Omega.{arith}
-use Rattle.sheet.specs.Steps.{Dividing, BroughtDown, Divided}
+use Rattle.sheet.specs.Steps.{Dividing}
 use Rattle.sheet.proofs.Divisions.{begins}
 use Rattle.sheet.proofs.given.long_division.Statement.{statement}
 use Rattle.sheet.proofs.given.long_division.Tie as tie

@@ -1,5 +1,5 @@
 -- `sheet::given::ratio` meets its contract. Assumes nothing.
-use mathlib.Core.Path.{_≡_, sym, _∙_, subst}
+use mathlib.Core.Path.{sym, _∙_, subst}
 use Prim.Native.Nat.{ℕ, _*_, _^_}
 use borrow.Author.Needs.{needs}
 use Rattle.sheet.specs.Number.{bias}

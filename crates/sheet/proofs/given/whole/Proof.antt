@@ -1,11 +1,10 @@
 -- `sheet::given::whole` meets its contract. Assumes nothing.
-use mathlib.Core.Path.{_≡_, sym, _∙_, subst}
+use mathlib.Core.Path.{sym, _∙_, subst}
 use mathlib.Core.Bool.{false, false≢true}
 use Prim.Native.Nat.{ℕ, _*_, _^_}
 use native.Mathlib.Omega.{arith}
 use Rattle.sheet.specs.Magnitude.{Place}
 use Rattle.sheet.specs.Number.{bias}
-use Rattle.sheet.specs.Round.{away}
 use Rattle.sheet.proofs.Live.{bias-is}
 use Rattle.sheet.proofs.Places.{place-whole}
 use Rattle.sheet.proofs.Operations.{whole-is}

@@ -2,13 +2,12 @@
 use mathlib.Core.Path.{_≡_, sym, _∙_}
 use mathlib.Core.Logic.{inl, inr}
 use mathlib.Core.Bool.{xor}
-use Prim.Native.Nat.{ℕ, _+_, _-_, _*_, _^_, _≤_, _<_}
-use native.Mathlib.Nat.{mul-le-mul, mul-le-mul-left, mul-lt-mul-of-pos-right, lt-of-le-of-lt, le-of-lt, zero-lt-suc}
+use Prim.Native.Nat.{_+_, _-_, _*_, _^_, _≤_, _<_}
+use native.Mathlib.Nat.{mul-le-mul, mul-le-mul-left, mul-lt-mul-of-pos-right, lt-of-le-of-lt, le-of-lt}
 use native.Mathlib.Omega.{arith}
 use Rattle.sheet.specs.declared.Sheet.{Sheet}
-use Rattle.sheet.specs.Number.{bias}
 use Rattle.sheet.specs.Range.{InRange}
-use Rattle.sheet.proofs.Live.{bias-is, Live, live}
+use Rattle.sheet.proofs.Live.{bias-is, live}
 use Rattle.sheet.proofs.Places.{place-whole}
 use Rattle.sheet.proofs.Operations.{product-is, product-zero}
 use Rattle.sheet.proofs.multiply.product.Statement.{statement}

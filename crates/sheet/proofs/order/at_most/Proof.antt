@@ -1,5 +1,5 @@
 -- `sheet::order::at_most` meets its contract, by the four cases of the signs. Assumes nothing.
-use mathlib.Core.Path.{_≡_, sym, _∙_}
+use mathlib.Core.Path.{sym, _∙_}
 use borrow.Author.Needs.{needs}
 use Rattle.sheet.specs.Number.{value}
 use Rattle.sheet.specs.Range.{extent}

@@ -1,9 +1,8 @@
 -- `sheet::order::not_above` meets its contract. Assumes nothing.
-use mathlib.Core.Path.{_≡_, sym, ap, _∙_}
-use Prim.Native.Nat.{ℕ, _*_, _^_}
+use mathlib.Core.Path.{_≡_, sym}
+use Prim.Native.Nat.{_*_, _^_}
 use native.Mathlib.Nat.{le-of-lt}
 use native.Mathlib.Omega.{arith}
-use lib.Dec.{leb}
 use borrow.Author.Tests.{le-leb, lt-leb}
 use Rattle.sheet.proofs.Compare.{lower-place, same-place}
 use Rattle.sheet.proofs.order.not_above.Statement.{statement}

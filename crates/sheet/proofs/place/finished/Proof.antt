@@ -2,7 +2,6 @@
 use mathlib.Core.Path.{_≡_, sym, ap, _∙_}
 use mathlib.Core.Bool.{Bool, true, false}
 use borrow.Author.Needs.{needs}
-use Rattle.sheet.specs.declared.Sheet.{Sheet}
 use Rattle.sheet.specs.Magnitude.{Magnitude, finish}
 use Rattle.sheet.specs.Number.{signed}
 use Rattle.sheet.specs.Round.{away}

@@ -1,10 +1,10 @@
 -- `sheet::place::narrowed` meets its contract. The loop's invariant: every quotient is kept, full digits stay full, and the place rises
 -- only as the digits fall. Assumes nothing.
 use mathlib.Core.Path.{_≡_, refl, ap}
-use Prim.Native.Nat.{ℕ, _+_, _*_, _/_, _^_, _≤_, _<_}
+use Prim.Native.Nat.{_+_, _*_, _^_, _≤_, _<_}
 use native.Mathlib.Omega.{arith}
 use Rattle.sheet.specs.declared.place.Found.{Found}
-use Rattle.sheet.specs.Steps.{Keeps, CutBy, Narrowed}
+use Rattle.sheet.specs.Steps.{Keeps, CutBy}
 use Rattle.sheet.proofs.place.narrowed.Statement.{statement}
 use Rattle.sheet.proofs.place.narrowed.Tie as tie
 

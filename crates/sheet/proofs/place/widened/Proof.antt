@@ -1,11 +1,11 @@
 -- `sheet::place::widened` meets its contract. The loop's invariant: every quotient is kept and nothing was cut. Assumes nothing.
-use mathlib.Core.Path.{_≡_, refl}
+use mathlib.Core.Path.{_≡_}
 use mathlib.Core.Bool.{false}
-use Prim.Native.Nat.{ℕ, _+_, _*_, _^_, _≤_, _<_}
+use Prim.Native.Nat.{_^_, _≤_, _<_}
 use native.Mathlib.Nat.{pos-of-ne-zero}
 use native.Mathlib.Omega.{arith}
 use Rattle.sheet.specs.declared.place.Found.{Found}
-use Rattle.sheet.specs.Steps.{Keeps, Opened, Fitted}
+use Rattle.sheet.specs.Steps.{Keeps, Opened}
 use Rattle.sheet.proofs.place.widened.Statement.{statement}
 use Rattle.sheet.proofs.place.widened.Tie as tie
 

@@ -1,0 +1,9 @@
+pub mod Corners
+pub mod Within
+pub mod Signs
+pub mod Inclusion
+pub mod Same
+pub mod Measures
+pub mod Ends
+pub mod PowerSteps
+pub mod Operands

@@ -1,0 +1,23 @@
+// Brackets of two sheet numbers of 32 bits (01, "Sheet numbers and brackets"): given values, the four operations, powers, and the last
+// addend of a series once more. Every function's contract is the rule itself. Assumes nothing.
+mod values; // values.rt: given values and whole numbers
+mod sums; // sums.rt: sum, difference, and the last addend once more
+mod products; // products.rt: product by the signs of the ends
+mod quotients; // quotients.rt: quotient by a divisor above zero
+mod powers; // powers.rt: powers by recursion
+
+pub use powers::power;
+pub use products::product;
+pub use quotients::quotient;
+use sheet::Sheet;
+pub use sums::add_last;
+pub use sums::difference;
+pub use sums::sum;
+pub use values::given;
+pub use values::given_ratio;
+pub use values::whole;
+
+pub struct Bracket {
+    pub lo: Sheet,
+    pub hi: Sheet,
+}

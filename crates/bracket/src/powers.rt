@@ -1,0 +1,19 @@
+// Powers of a bracket by recursion: the exponent falls. Assumes nothing.
+use crate::Bracket;
+use crate::products::product;
+use crate::values::whole;
+ghost use mathlib.Core.Path.{_≡_};
+ghost use Rattle.bracket.specs.Rules.{power};
+ghost use Rattle.bracket.specs.Held.{Powers};
+
+// No factor gives 1; the last of n factors multiplies the power of the others.
+pub fn power(b: Bracket, n: u64) -> Bracket
+    requires { ⌜ Powers b n ⌝ }
+    ensures { λ r. ⌜ r ≡ power 32 b n ⌝ }
+{
+    if n == 0 {
+        whole(1)
+    } else {
+        product(power(b, n - 1), b)
+    }
+}
