@@ -1,0 +1,210 @@
+/* The equation's three sums, and what one state and one pair are made of.  Assumes what mpfr_equation.h says. */
+#include "mpfr_equation.h"
+
+typedef struct {
+    unsigned c, d, t;
+    int negative;
+    uint64_t magnitude;
+} term;
+
+typedef struct {
+    bracket s0, s1, s2;
+} sums;
+
+/* Nine bytes, most significant bit first: c 2, d 4, t 5, sign 1, magnitude 60. */
+static term unpacked(const uint8_t *nine)
+{
+    unsigned head = nine[0] << 4 | nine[1] >> 4;
+    uint64_t magnitude = nine[1] & 15;
+    for (int i = 2; i < 9; i++)
+        magnitude = magnitude << 8 | nine[i];
+    return (term){head >> 10, head >> 6 & 15, head >> 1 & 31, head & 1, magnitude};
+}
+
+/* V = ((coefficient times delta^d) times tau^t) times E; without c there is no E. */
+static void value(bracket *r, const term *n, const bracket *delta, const bracket *tau, const bracket *power_c)
+{
+    BRACKET(coefficient);
+    BRACKET(power);
+    BRACKET(first);
+    BRACKET(second);
+    BRACKET(e);
+    peer_ratio(&coefficient, n->negative, n->magnitude, 10000000000000000u);
+    peer_power(&power, delta, n->d);
+    peer_product(&first, &coefficient, &power);
+    peer_power(&power, tau, n->t);
+    if (n->c == 0) {
+        peer_product(r, &first, &power);
+        return;
+    }
+    peer_product(&second, &first, &power);
+    peer_exponential(&e, power_c);
+    peer_product(r, &second, &e);
+}
+
+/* w = d - (c times delta^c), and what V is multiplied with in S2: (w times (w - 1)) - (c^2 times delta^c). */
+static void weights(bracket *w, bracket *w2, const term *n, const bracket *power_c)
+{
+    BRACKET(whole);
+    BRACKET(d);
+    BRACKET(part);
+    BRACKET(less);
+    BRACKET(product);
+    if (n->c == 0) {
+        peer_whole(w, n->d);
+    } else {
+        peer_whole(&d, n->d);
+        peer_whole(&whole, n->c);
+        peer_product(&part, &whole, power_c);
+        peer_difference(w, &d, &part);
+    }
+    peer_whole(&whole, 1);
+    peer_difference(&less, w, &whole);
+    if (n->c == 0) {
+        peer_product(w2, w, &less);
+        return;
+    }
+    peer_product(&product, w, &less);
+    peer_whole(&whole, n->c * n->c);
+    peer_product(&part, &whole, power_c);
+    peer_difference(w2, &product, &part);
+}
+
+static void add_term(sums *s, const term *n, const bracket *delta, const bracket *tau)
+{
+    BRACKET(power_c);
+    BRACKET(v);
+    BRACKET(w);
+    BRACKET(w2);
+    BRACKET(addend);
+    if (n->c != 0)
+        peer_power(&power_c, delta, n->c);
+    value(&v, n, delta, tau, &power_c);
+    weights(&w, &w2, n, &power_c);
+    peer_sum(&s->s0, &s->s0, &v);
+    peer_product(&addend, &v, &w);
+    peer_sum(&s->s1, &s->s1, &addend);
+    peer_product(&addend, &v, &w2);
+    peer_sum(&s->s2, &s->s2, &addend);
+}
+
+static void sums_of(sums *s, const uint8_t *table, size_t length, double T, double rho)
+{
+    BRACKET(given);
+    BRACKET(constant);
+    BRACKET(delta);
+    BRACKET(tau);
+    peer_given(&given, rho);
+    peer_whole(&constant, 322);
+    peer_quotient(&delta, &given, &constant);
+    peer_given(&given, T);
+    peer_ratio(&constant, 0, 64714, 100);
+    peer_quotient(&tau, &constant, &given);
+    peer_ready(&s->s0);
+    peer_ready(&s->s1);
+    peer_ready(&s->s2);
+    for (size_t at = 0; at < length; at += 9) {
+        term n = unpacked(table + at);
+        add_term(s, &n, &delta, &tau);
+    }
+}
+
+/* ((rho times R) times T) times (1 + S1). */
+static void pressure(bracket *r, const sums *s, double T, double rho)
+{
+    BRACKET(given);
+    BRACKET(constant);
+    BRACKET(first);
+    BRACKET(second);
+    peer_given(&given, rho);
+    peer_ratio(&constant, 0, 46151805, 100000);
+    peer_product(&first, &given, &constant);
+    peer_given(&given, T);
+    peer_product(&second, &first, &given);
+    peer_whole(&constant, 1);
+    peer_sum(&first, &constant, &s->s1);
+    peer_product(r, &second, &first);
+}
+
+/* R times T. */
+static void warmth(bracket *r, double T)
+{
+    BRACKET(given);
+    BRACKET(constant);
+    peer_given(&given, T);
+    peer_ratio(&constant, 0, 46151805, 100000);
+    peer_product(r, &constant, &given);
+}
+
+/* (R times T) times ((1 + (2 times S1)) + S2). */
+static void stiffness(bracket *r, const sums *s, double T)
+{
+    BRACKET(whole);
+    BRACKET(twice);
+    BRACKET(total);
+    BRACKET(heat);
+    peer_whole(&whole, 2);
+    peer_product(&twice, &whole, &s->s1);
+    peer_whole(&whole, 1);
+    peer_sum(&total, &whole, &twice);
+    peer_sum(&total, &total, &s->s2);
+    warmth(&heat, T);
+    peer_product(r, &heat, &total);
+}
+
+/* (R times T) times (ln q + ((S0 + S1) of the liquid - (S0 + S1) of the vapour)). */
+static void gibbs_gap(bracket *r, const sums *heavy, const sums *light, double T, double liquid, double vapour)
+{
+    BRACKET(ln_q);
+    BRACKET(a);
+    BRACKET(b);
+    BRACKET(gap);
+    BRACKET(heat);
+    peer_logarithm(&ln_q, liquid, vapour);
+    peer_sum(&a, &heavy->s0, &heavy->s1);
+    peer_sum(&b, &light->s0, &light->s1);
+    peer_difference(&gap, &a, &b);
+    peer_sum(&ln_q, &ln_q, &gap);
+    warmth(&heat, T);
+    peer_product(r, &heat, &ln_q);
+}
+
+/* Zero is handed out as +0.0. */
+static void hand_out(double *two, const bracket *b)
+{
+    two[0] = mpfr_zero_p(b->lo) ? 0.0 : mpfr_get_d(b->lo, MPFR_RNDN);
+    two[1] = mpfr_zero_p(b->hi) ? 0.0 : mpfr_get_d(b->hi, MPFR_RNDN);
+}
+
+void peer_state(peer_state_ends *r, const uint8_t *table, size_t length, double T, double rho)
+{
+    sums s;
+    BRACKET(b);
+    sums_of(&s, table, length, T, rho);
+    pressure(&b, &s, T, rho);
+    hand_out(r->pressure, &b);
+    stiffness(&b, &s, T);
+    hand_out(r->stiffness, &b);
+}
+
+void peer_pair(peer_pair_ends *r, const uint8_t *table, size_t length, double T, double liquid, double vapour)
+{
+    sums heavy, light;
+    BRACKET(a);
+    BRACKET(b);
+    BRACKET(gap);
+    sums_of(&heavy, table, length, T, liquid);
+    sums_of(&light, table, length, T, vapour);
+    pressure(&a, &heavy, T, liquid);
+    hand_out(r->liquid_pressure, &a);
+    pressure(&b, &light, T, vapour);
+    hand_out(r->vapour_pressure, &b);
+    peer_difference(&gap, &a, &b);
+    hand_out(r->pressure_gap, &gap);
+    gibbs_gap(&gap, &heavy, &light, T, liquid, vapour);
+    hand_out(r->gibbs_gap, &gap);
+    stiffness(&a, &heavy, T);
+    hand_out(r->liquid_stiffness, &a);
+    stiffness(&b, &light, T);
+    hand_out(r->vapour_stiffness, &b);
+}

@@ -1,0 +1,202 @@
+/* The MPFR peer as a program of the comparison: mpfr_lines NAME answers the records of tests/gen_NAME.py, for single,
+   brackets, series, states and pairs, so that tests/compare can hold it to the second program.
+   Assumes whole records, as tests/stream.py describes them. */
+#include <stdio.h>
+#include <stdlib.h>
+#include <string.h>
+#include "mpfr_equation.h"
+
+enum { BIAS = 262144, LONGEST = 576 };
+
+/* The next word of standard input, most significant byte first; 0 where the input ends. */
+static int next_word(uint64_t *word)
+{
+    uint8_t bytes[8];
+    size_t got = fread(bytes, 1, 8, stdin);
+    if (got != 0 && got != 8) {
+        fputs("mpfr_lines: a record is cut short\n", stderr);
+        exit(1);
+    }
+    *word = 0;
+    for (size_t i = 0; i < got; i++)
+        *word = *word << 8 | bytes[i];
+    return got == 8;
+}
+
+static uint64_t word(void)
+{
+    uint64_t w;
+    if (!next_word(&w)) {
+        fputs("mpfr_lines: a record is cut short\n", stderr);
+        exit(1);
+    }
+    return w;
+}
+
+static double f64(void)
+{
+    uint64_t w = word();
+    double x;
+    memcpy(&x, &w, 8);
+    return x;
+}
+
+static void end(mpfr_ptr x)
+{
+    int negative = word() != 0;
+    uint64_t m = word(), e = word();
+    mpfr_set_ui_2exp(x, m, (mpfr_exp_t)e - BIAS, MPFR_RNDN); /* exact; zero has m 0 */
+    if (negative)
+        mpfr_neg(x, x, MPFR_RNDN);
+}
+
+static void read_bracket(bracket *b)
+{
+    end(b->lo);
+    end(b->hi);
+}
+
+static void read_table(uint8_t *bytes, size_t length)
+{
+    if (length > LONGEST) {
+        fputs("mpfr_lines: a table is too long\n", stderr);
+        exit(1);
+    }
+    for (size_t at = 0; at < length; at += 8) {
+        uint64_t w = word();
+        for (size_t i = 0; i < 8; i++)
+            bytes[at + i] = w >> (56 - 8 * i);
+    }
+}
+
+/* The words of the line that is being made. */
+static uint64_t line[12];
+static size_t words;
+
+static void put(uint64_t w)
+{
+    line[words++] = w;
+}
+
+static void put_f64(const double *two)
+{
+    for (int i = 0; i < 2; i++) {
+        uint64_t w;
+        memcpy(&w, &two[i], 8);
+        put(w);
+    }
+}
+
+static void put_end(mpfr_srcptr x)
+{
+    const mp_limb_t *digits = mpfr_custom_get_significand(x); /* the 32 bits stand at the top of 64 */
+    int zero = mpfr_zero_p(x);
+    put(!zero && mpfr_signbit(x));
+    put(zero ? 0 : *digits >> 32);
+    put(zero ? 0 : mpfr_get_exp(x) - BITS + BIAS);
+}
+
+static void put_bracket(const bracket *b)
+{
+    put_end(b->lo);
+    put_end(b->hi);
+}
+
+static void end_line(void)
+{
+    for (size_t i = 0; i < words; i++)
+        printf("%016llx%c", (unsigned long long)line[i], i + 1 < words ? ' ' : '\n');
+    words = 0;
+}
+
+typedef int single(mpfr_ptr, mpfr_srcptr, mpfr_srcptr, mpfr_rnd_t);
+typedef void operation(bracket *, const bracket *, const bracket *);
+
+/* In each answer, first is the record's first word. */
+static void answer_single(uint64_t first)
+{
+    static single *const operations[] = {mpfr_add, mpfr_sub, mpfr_mul, mpfr_div};
+    mpfr_rnd_t direction = word() ? MPFR_RNDU : MPFR_RNDD;
+    BRACKET(operands);
+    MPFR_DECL_INIT(r, BITS);
+    read_bracket(&operands); /* two single numbers here */
+    operations[first](r, operands.lo, operands.hi, direction);
+    put_end(r);
+}
+
+static void answer_brackets(uint64_t first)
+{
+    static operation *const operations[] = {peer_sum, peer_difference, peer_product, peer_quotient};
+    unsigned n = word();
+    BRACKET(a);
+    BRACKET(b);
+    BRACKET(r);
+    read_bracket(&a);
+    read_bracket(&b);
+    if (first == 4)
+        peer_power(&r, &a, n);
+    else
+        operations[first](&r, &a, &b);
+    put_bracket(&r);
+}
+
+static void answer_series(uint64_t first)
+{
+    BRACKET(x);
+    BRACKET(r);
+    if (first == 0) {
+        read_bracket(&x);
+        peer_exponential(&r, &x);
+    } else {
+        double liquid = f64(), vapour = f64();
+        for (int i = 0; i < 4; i++)
+            word();
+        peer_logarithm(&r, liquid, vapour);
+    }
+    put_bracket(&r);
+}
+
+static uint8_t table[LONGEST + 8];
+
+/* A table's length is the first word of a state and of a pair. */
+static void answer_state(uint64_t first)
+{
+    peer_state_ends r;
+    read_table(table, first);
+    double T = f64(), rho = f64();
+    peer_state(&r, table, first, T, rho);
+    put_f64(r.pressure);
+    put_f64(r.stiffness);
+}
+
+static void answer_pair(uint64_t first)
+{
+    peer_pair_ends r;
+    read_table(table, first);
+    double T = f64(), liquid = f64(), vapour = f64();
+    peer_pair(&r, table, first, T, liquid, vapour);
+    put_f64(r.liquid_pressure);
+    put_f64(r.vapour_pressure);
+    put_f64(r.pressure_gap);
+    put_f64(r.gibbs_gap);
+    put_f64(r.liquid_stiffness);
+    put_f64(r.vapour_stiffness);
+}
+
+int main(int count, char **arguments)
+{
+    static const struct {
+        const char *name;
+        void (*answer)(uint64_t);
+    } kinds[] = {{"single", answer_single}, {"brackets", answer_brackets}, {"series", answer_series},
+                 {"states", answer_state}, {"pairs", answer_pair}};
+    for (size_t i = 0; count == 2 && i < sizeof kinds / sizeof *kinds; i++) {
+        if (strcmp(arguments[1], kinds[i].name) != 0)
+            continue;
+        for (uint64_t first; next_word(&first); end_line())
+            kinds[i].answer(first);
+        return 0;
+    }
+    fputs("usage: mpfr_lines single|brackets|series|states|pairs\n", stderr);
+    return 2;
+}

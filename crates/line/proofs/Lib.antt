@@ -1,0 +1,8 @@
+-- What the proofs of several functions use.
+pub mod Joined
+pub mod Spelt
+pub mod NotANumber
+pub mod BytesNumber
+pub mod Held
+pub mod Meaning
+pub mod Tried

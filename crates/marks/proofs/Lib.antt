@@ -1,0 +1,2 @@
+-- Laws of the loops' operands. Assumes nothing.
+pub mod Arguments

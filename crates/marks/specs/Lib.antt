@@ -1,0 +1,2 @@
+-- What the loops ask of their operands. Assumes nothing.
+pub mod Argument

@@ -1,0 +1,4 @@
+-- The laws of the measures. Assumes nothing.
+pub mod Lift
+pub mod Measure
+pub mod Sizes

@@ -1,0 +1,2 @@
+-- Measures of size and fineness. Assumes nothing.
+pub mod Measure

@@ -1,0 +1,106 @@
+-- The exponential's rule step by step, as the code counts, and what the code's operations are given. Assumes nothing.
+use mathlib.Core.Path.{_≡_, refl, sym, ap, ap₂, _∙_, subst}
+use Prim.Native.Nat.{ℕ, _+_, _-_, _^_, _≤_, _<_}
+use native.Mathlib.Numerals.{add-one}
+use native.Mathlib.Omega.{arith}
+use lib.Dec.{lit≤}
+use Rattle.exact.specs.Fraction.{nat, _≺_}
+use Rattle.exact.specs.Fraction.Order.{≼-trans, ≺-≼-trans, ≺-≈-trans, ≈-sym, ≈-≼-trans, ≼-≈-trans}
+use Rattle.exact.specs.Fraction.Parts.{nat-pos}
+use Rattle.sheet.specs.Number.{bias, value}
+use Rattle.bracket.specs.declared.Bracket.{Bracket}
+use Rattle.bracket.specs.Span.{Span, Ordered, Each, whole}
+use Rattle.bracket.specs.Held.{Held}
+use Rattle.bracket.specs.Rules.{ends, given, plus, times, divided, addlast}
+use Rattle.bracket.proofs.Operands.{given-whole, divided-whole, whole-divided}
+use Rattle.measure.proofs.Sizes.{Positive}
+use Rattle.series.specs.Exponential.{expTerm, expSum, expTotal, expneg}
+use Rattle.series.specs.Terms.{Factor, termsTo}
+use Rattle.series.specs.declared.exponential.Terms.{Terms}
+use Rattle.series.proofs.Short.{bias-room}
+use Rattle.series.proofs.Units.{unit-part, unit-nat, unit-pos}
+use Rattle.series.proofs.ExponentialRange.{expTotal-ordered, expTotal-sized, expTerm-held, expSum-held, expProduct-held, expTotal-held}
+use Rattle.series.proofs.Tight.{units-sized}
+
+-- ---- the rule
+pub expTerm-first : (w : ℕ) (X : Span) → expTerm w X 0 ≡ given w (nat 1)
+unfolding expTerm
+expTerm-first w X = refl
+
+pub expTerm-next : (w : ℕ) (X : Span) (k : ℕ) → expTerm w X (k + 1) ≡ divided w (ends (times w (ends (expTerm w X k)) X)) (whole (k + 1))
+unfolding expTerm
+expTerm-next w X k = rw add-one
+
+pub expSum-first : (w : ℕ) (X : Span) → expSum w X 0 ≡ given w (nat 1)
+unfolding expSum expTerm
+expSum-first w X = refl
+
+pub expSum-next : (w : ℕ) (X : Span) (k : ℕ) → expSum w X (k + 1) ≡ plus w (ends (expSum w X k)) (ends (expTerm w X (k + 1)))
+unfolding expSum
+expSum-next w X k = rw add-one
+
+-- ---- the premise
+pub factor-ordered : {X : Span} → Factor X → Ordered X
+factor-ordered f = record { order = f .order }
+
+pub factor-positive : {X : Span} → Factor X → Each (Positive (bias - 57) (bias + 6)) X
+factor-positive f =
+    let l = ≈-≼-trans (unit-part 57 (omega (arith, bias-room))) (f .least) in
+    let h = ≼-≈-trans (f .most) (≈-sym (unit-nat 6)) in
+    record {
+      low = record { above = ≺-≼-trans (unit-pos (bias - 57)) l; sized = units-sized l (≼-trans (f .order) h) };
+      high = record { above = ≺-≼-trans (unit-pos (bias - 57)) (≼-trans l (f .order)); sized = units-sized (≼-trans l (f .order)) h };
+    }
+
+-- ---- one step: p, w, t and s are what the code's calls give
+pub whole-above : (n : ℕ) {a : Bracket} → 0 < n → n < 2 ^ 32 → a ≡ given 32 (nat n) → nat 0 ≺ value (a .lo)
+whole-above n some few e = subst (λ (b : Bracket). nat 0 ≺ value (b .lo)) (sym e) (≺-≈-trans (nat-pos some) (≈-sym (given-whole 31 n few .low)))
+
+pub term-next : (X : Span) (k : ℕ) {t p w r : Bracket} → k < 256 → t ≡ expTerm 32 X k → p ≡ times 32 (ends t) X → w ≡ given 32 (nat (k + 1)) → r ≡ divided 32 (ends p) (ends w)
+    → r ≡ expTerm 32 X (k + 1)
+term-next X k {t} {p} {w} {r} h a b d e =
+    e ∙ divided-whole 31 (k + 1) (omega arith) d (ends p) (omega arith)
+    ∙ ap (λ (b : Bracket). divided 32 (ends b) (whole (k + 1))) (b ∙ ap (λ (b : Bracket). times 32 (ends b) X) a) ∙ sym (expTerm-next 32 X k)
+
+pub sum-next : (X : Span) (k : ℕ) {s t r : Bracket} → s ≡ expSum 32 X k → t ≡ expTerm 32 X (k + 1) → r ≡ plus 32 (ends s) (ends t) → r ≡ expSum 32 X (k + 1)
+sum-next X k {s} {t} {r} a b e = e ∙ ap₂ (λ (s t : Bracket). plus 32 (ends s) (ends t)) a b ∙ sym (expSum-next 32 X k)
+
+-- ---- what the calls require
+pub held-as : {a b : Bracket} → a ≡ b → Held b → Held a
+held-as e h = subst Held (sym e) h
+
+module _ {X : Span} (f : Factor X) {k : ℕ} {s : Terms} (h : k ≤ 256) (e : s ≡ termsTo X k) where
+  pub term-held : Held (s .term)
+  term-held = held-as (ap (λ (s : Terms). s .term) e) (expTerm-held (factor-ordered f) (factor-positive f) k h)
+
+  pub sum-held : Held (s .sum)
+  sum-held = held-as (ap (λ (s : Terms). s .sum) e) (expSum-held (factor-ordered f) (factor-positive f) k h)
+
+  pub product-held : {p : Bracket} → p ≡ times 32 (ends (s .term)) X → Held p
+  product-held i =
+      held-as (i ∙ ap (λ (s : Terms). times 32 (ends (s .term)) X) e) (expProduct-held (factor-ordered f) (factor-positive f) k h)
+
+-- ---- the end of the loop
+module _ {X : Span} (f : Factor X) {k : ℕ} {s : Terms} (h : k ≤ 256) (l : 256 ≤ k) (e : s ≡ termsTo X k) where
+  total-is : {total : Bracket} → total ≡ addlast 32 (s .sum) (s .term) → total ≡ expTotal 32 X
+  unfolding expTotal
+  total-is d =
+      let n : k ≡ 256 = omega arith in
+      d ∙ ap (λ (s : Terms). addlast 32 (s .sum) (s .term)) (subst (λ (k : ℕ). s ≡ termsTo X k) n e)
+
+  pub total-held : {total : Bracket} → total ≡ addlast 32 (s .sum) (s .term) → Held total
+  total-held d = held-as (total-is d) (expTotal-held (factor-ordered f) (factor-positive f))
+
+  pub total-above : {total : Bracket} → total ≡ addlast 32 (s .sum) (s .term) → nat 0 ≺ value (total .lo)
+  total-above d =
+      subst (λ (b : Bracket). nat 0 ≺ value (b .lo)) (sym (total-is d))
+      (expTotal-sized 31 (factor-ordered f) (factor-positive f) (lit≤ tt) .low .above)
+
+  pub answer-is : {total one r : Bracket} → total ≡ addlast 32 (s .sum) (s .term) → one ≡ given 32 (nat 1) → r ≡ divided 32 (ends one) (ends total)
+      → r ≡ expneg 32 X
+  unfolding expneg
+  answer-is {total} {one} {r} d i j =
+      let o = factor-ordered f in
+      let x = factor-positive f in
+      j ∙ ap (λ (b : Bracket). divided 32 (ends one) (ends b)) (total-is d)
+      ∙ whole-divided 31 1 (lit≤ tt) i (ends (expTotal 32 X)) (expTotal-ordered 31 o x) (expTotal-sized 31 o x (lit≤ tt) .low .above)

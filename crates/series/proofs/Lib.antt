@@ -1,0 +1,24 @@
+-- The laws of the two series. Assumes nothing.
+pub mod Kept
+pub mod Short
+pub mod Units
+pub mod Fits
+pub mod Close
+pub mod Between
+pub mod ExponentialCovers
+pub mod LogarithmCovers
+pub mod RatioCovers
+pub mod Sign
+pub mod Tight
+pub mod ExponentialRange
+pub mod ExponentialSteps
+pub mod RatioRange
+pub mod ZRange
+pub mod LogarithmRange
+pub mod LogarithmHeld
+pub mod LogarithmSteps
+pub mod LnRatioRange
+pub mod Arguments
+pub mod RatioHeld
+pub mod RatioSteps
+pub mod Cases

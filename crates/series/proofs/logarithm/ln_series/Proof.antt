@@ -1,0 +1,100 @@
+-- `series::logarithm::ln_series` meets its contract. The loop's invariant: the state is the rule's power and sum to j. Assumes nothing.
+use mathlib.Core.Path.{_≡_, sym, _∙_}
+use Prim.Native.Nat.{_-_, _≤_}
+use native.Mathlib.Omega.{arith}
+use native.Mathlib.Nat.{le-refl}
+use lib.Dec.{lit≤}
+use Rattle.bracket.proofs.Operands.{whole-held}
+use Rattle.series.specs.Powers.{powersTo}
+use Rattle.series.proofs.ExponentialSteps.{held-as}
+use Rattle.series.proofs.LogarithmSteps.{lnPower-first, lnSum-first, power-held, quotient-held, sum-held, total-held, last-power, last-sum, last-quotient, total-is, answer-is}
+use Rattle.series.proofs.logarithm.ln_series.Statement.{statement}
+use Rattle.series.proofs.logarithm.ln_series.Tie as tie
+
+abbrev Inv-loop : tie.InvT-loop
+Inv-loop z square s₀ j₀ s j = (j ≤ 20) × (s ≡ powersTo z j)
+
+abbrev μ-loop : tie.MeasureT-loop
+μ-loop z square s₀ j₀ s j = 20 - j
+
+product-requires : tie.Need-product-requires Inv-loop μ-loop
+product-requires c κs = (c .pre .held, c .pre .held)
+
+share-requires : tie.Need-share-requires Inv-loop μ-loop
+share-requires c κs = (c .before .pre .held, omega arith)
+
+loop-holds : tie.Need-loop-holds Inv-loop μ-loop
+loop-holds c =
+    let z = c .before .before .args .z in
+    let e = sym (lnPower-first 32 z) in
+    let f = c .share .ensures ∙ sym (lnSum-first 32 z) in
+    (omega arith, λ i. record { power = e i; sum = f i })
+
+one-more-requires : tie.Need-one-more-requires Inv-loop μ-loop
+one-more-requires c κs =
+    (c .before .before .before .before .pre, c .loop-test .taken, c .before .before .before .product .ensures, c .before .loop .inv .1)
+
+add-j : tie.Need-add-j Inv-loop μ-loop
+add-j c = omega arith
+
+loop-less : tie.Need-loop-less Inv-loop μ-loop
+loop-less c = omega arith
+
+loop-again : tie.Need-loop-again Inv-loop μ-loop
+loop-again c = (omega arith, c .one-more .ensures)
+
+share-requires-2 : tie.Need-share-requires-2 Inv-loop μ-loop
+share-requires-2 c κs =
+    let i = c .before .loop .inv in
+    let a = c .before .before .before .before .pre in
+    (power-held a 20 (le-refl 20) (last-power (c .before .before .before .before .args .z) (i .0) (c .loop-test .left) (i .1)), le-refl 20)
+
+add-last-requires : tie.Need-add-last-requires Inv-loop μ-loop
+add-last-requires c κs =
+    let i = c .before .before .loop .inv in
+    let l = c .before .loop-test .left in
+    let z = c .before .before .before .before .before .args .z in
+    let a = c .before .before .before .before .before .pre in (
+      sum-held a 20 (le-refl 20) (last-sum z (i .0) l (i .1)),
+      quotient-held a 20 (le-refl 20) (last-quotient z (i .0) l (i .1) (c .share2 .ensures)),
+    )
+
+whole-requires : tie.Need-whole-requires Inv-loop μ-loop
+whole-requires c κs = lit≤ tt
+
+product-requires-2 : tie.Need-product-requires-2 Inv-loop μ-loop
+product-requires-2 c κs =
+    let i = c .before .before .before .before .loop .inv in
+    let l = c .before .before .before .loop-test .left in
+    let z = c .before .before .before .before .before .before .before .args .z in
+    let a = c .before .before .before .before .before .before .before .pre in (
+      held-as (c .whole .ensures) (whole-held 2 (lit≤ tt)),
+      total-held a (total-is z (i .0) l (i .1) (c .before .before .share2 .ensures) (c .before .add-last .ensures)),
+    )
+
+returns : tie.Need-returns Inv-loop μ-loop
+returns c =
+    let i = c .before .before .before .before .before .loop .inv in
+    let l = c .before .before .before .before .loop-test .left in
+    let z = c .before .before .before .before .before .before .before .before .args .z in
+    answer-is z (total-is z (i .0) l (i .1) (c .before .before .before .share2 .ensures) (c .before .before .add-last .ensures))
+    (c .before .whole .ensures) (c .product2 .ensures)
+
+pub ln-series-spec : {M : Type 1} → statement M
+ln-series-spec =
+    tie.close
+    (tie.spec
+    Inv-loop
+    μ-loop
+    product-requires
+    share-requires
+    loop-holds
+    one-more-requires
+    add-j
+    loop-less
+    loop-again
+    share-requires-2
+    add-last-requires
+    whole-requires
+    product-requires-2
+    returns)

@@ -1,0 +1,16 @@
+-- The exponential as the code takes it: what is asked of x, and the term and the sum after k steps. Assumes nothing.
+use Prim.Native.Nat.{ℕ, _^_}
+use mathlib.Core.Bool.{false}
+use Rattle.exact.specs.Fraction.{nat, parts, _≼_}
+use Rattle.bracket.specs.Span.{Span}
+use Rattle.series.specs.declared.exponential.Terms.{Terms}
+use Rattle.series.specs.Exponential.{expTerm, expSum}
+
+-- from 2^-57 to 64
+pub record Factor (X : Span) : Type 0 where
+  pub least : parts false 1 (2 ^ 57) ≼ X .low
+  pub order : X .low ≼ X .high
+  pub most : X .high ≼ nat 64
+
+abbrev pub termsTo : Span → ℕ → Terms
+termsTo X k = record { term = expTerm 32 X k; sum = expSum 32 X k }
