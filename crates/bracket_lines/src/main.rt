@@ -1,91 +1,17 @@
-// Reads operations on brackets from standard input and writes each result as a line, for a comparison bit for bit. A record is 14 words of
-// eight bytes, most significant first: the operation (0 sum, 1 difference, 2 product, 3 quotient, 4 power), the power's exponent, and two
-// brackets of two sheet numbers of three words, sign, digits and place. A line is the result's six words as hexadecimal digits. What no
-// operation takes is answered by zeros. Assumes nothing.
+// Reads operations on brackets from standard input and writes each result as a line, for a comparison bit for bit. A record is 14 words:
+// the operation (0 sum, 1 difference, 2 product, 3 quotient, 4 power), the power's exponent, and two brackets of two sheet numbers. A line
+// is the result's six words. What no operation takes is answered by zeros. Assumes nothing.
 use bracket::Bracket;
-use libc::STDIN_FILENO;
-use libc::STDOUT_FILENO;
-use sheet::Sheet;
 ghost use mathlib.Core.Path.{_≡_};
 ghost use mathlib.Core.Bool.{true};
-ghost use Prim.Native.Nat.{_+_, _≤_};
-ghost use Rattle.sheet.specs.Range.{InRange};
 ghost use Rattle.bracket.specs.Held.{Held};
-
-fn wide(x: u8) -> u64 {
-    x as u64
-}
-
-// The word that starts at a byte of the record.
-fn word(r: &[u8; 112], at: usize) -> u64
-    requires { ⌜ at + 8 ≤ 112 ⌝ }
-{
-    let mut w: u64 = 0;
-    let mut i: usize = 0;
-    while i < 8 {
-        w = (w << 8) | wide(r[at + i]);
-        i += 1;
-    }
-    w
-}
-
-fn number_at(r: &[u8; 112], at: usize) -> Sheet
-    requires { ⌜ at + 24 ≤ 112 ⌝ }
-{
-    let neg = word(r, at);
-    let m = word(r, at + 8);
-    let e = word(r, at + 16);
-    Sheet {
-        neg: neg == 1,
-        m,
-        e,
-    }
-}
-
-fn bracket_at(r: &[u8; 112], at: usize) -> Bracket
-    requires { ⌜ at + 48 ≤ 112 ⌝ }
-{
-    let lo = number_at(r, at);
-    let hi = number_at(r, at + 24);
-    Bracket { lo, hi }
-}
-
-// Whether the operations take the number.
-fn usable(s: Sheet) -> bool
-    ensures { λ r. ⌜ (r ≡ true → InRange s) ⌝ }
-{
-    let m = s.m;
-    let e = s.e;
-    if m == 0 {
-        if s.neg {
-            return false;
-        }
-        if 0 < e {
-            return false;
-        }
-        return true;
-    }
-    if m < 2147483648 {
-        return false;
-    }
-    if 4294967295 < m {
-        return false;
-    }
-    if e < 242144 {
-        return false;
-    }
-    if 282144 < e {
-        return false;
-    }
-    true
-}
 
 // Whether the operations take the bracket.
 fn held(b: Bracket) -> bool
     ensures { λ r. ⌜ (r ≡ true → Held b) ⌝ }
 {
-    if usable(b.lo) {
-        if usable(b.hi) {
+    if words::usable(b.lo) {
+        if words::usable(b.hi) {
             return sheet::at_most(b.lo, b.hi);
         }
     }
@@ -93,11 +19,7 @@ fn held(b: Bracket) -> bool
 }
 
 fn none() -> Bracket {
-    let zero = Sheet {
-        neg: false,
-        m: 0,
-        e: 0,
-    };
+    let zero = words::zero();
     Bracket { lo: zero, hi: zero }
 }
 
@@ -105,15 +27,10 @@ fn none() -> Bracket {
 fn divided(a: Bracket, b: Bracket) -> Bracket
     requires { ⌜ Held a × Held b ⌝ }
 {
-    let lo = b.lo;
-    if lo.neg {
-        return none();
+    if words::above_zero(b.lo) {
+        return bracket::quotient(a, b);
     }
-    let m = lo.m;
-    if m == 0 {
-        return none();
-    }
-    bracket::quotient(a, b)
+    none()
 }
 
 // A power needs every lower power in range.
@@ -160,42 +77,24 @@ fn answer(operation: u64, n: u64, a: Bracket, b: Bracket) -> Bracket {
     none()
 }
 
-fn write_word(w: u64) {
-    io::print_hex(STDOUT_FILENO, w, 16);
-}
-
-// One word more on a line.
-fn add_word(w: u64) {
-    io::write_all(STDOUT_FILENO, b" ");
-    write_word(w);
-}
-
-fn flag(b: bool) -> u64 {
-    if b { 1 } else { 0 }
-}
-
-fn line(b: Bracket) -> bool {
-    let lo = b.lo;
-    let hi = b.hi;
-    write_word(flag(lo.neg));
-    add_word(lo.m);
-    add_word(lo.e);
-    add_word(flag(hi.neg));
-    add_word(hi.m);
-    add_word(hi.e);
-    io::write_all(STDOUT_FILENO, b"\n")
-}
-
 // One record is read and answered; false where the input has ended.
 fn turn() -> bool {
-    let mut r = [0u8; 112];
-    let got = io::read_full(STDIN_FILENO, &mut r);
-    if got < 112 {
+    let mut r = [0u64; 14];
+    if !words::read(&mut r) {
         return false;
     }
-    let a = bracket_at(&r, 16);
-    let b = bracket_at(&r, 64);
-    line(answer(word(&r, 0), word(&r, 8), a, b))
+    let a = Bracket {
+        lo: words::number(r[2], r[3], r[4]),
+        hi: words::number(r[5], r[6], r[7]),
+    };
+    let b = Bracket {
+        lo: words::number(r[8], r[9], r[10]),
+        hi: words::number(r[11], r[12], r[13]),
+    };
+    let x = answer(r[0], r[1], a, b);
+    words::first_number(x.lo);
+    words::next_number(x.hi);
+    words::end_line()
 }
 
 // A proved loop has to end, so it counts its turns down from a number that no run uses up.

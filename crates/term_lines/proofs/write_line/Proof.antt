@@ -12,11 +12,11 @@ check-table-requires c κs = search needs
 enum-known-answer : tie.Need-enum-known-answer
 enum-known-answer c = search needs
 
-write-word-requires : tie.Need-write-word-requires
-write-word-requires c κs = search needs
+first-requires : tie.Need-first-requires
+first-requires c κs = search needs
 
-add-word-requires : tie.Need-add-word-requires
-add-word-requires c κs = search needs
+next-requires : tie.Need-next-requires
+next-requires c κs = search needs
 
 write-terms-requires : tie.Need-write-terms-requires
 write-terms-requires c κs =
@@ -30,26 +30,23 @@ write-terms-requires c κs =
 enum-told : tie.Need-enum-told
 enum-told c = search needs
 
-write-word-requires-2 : tie.Need-write-word-requires-2
-write-word-requires-2 c κs = search needs
+first-requires-2 : tie.Need-first-requires-2
+first-requires-2 c κs = search needs
 
-add-word-requires-2 : tie.Need-add-word-requires-2
-add-word-requires-2 c κs = search needs
+next-requires-2 : tie.Need-next-requires-2
+next-requires-2 c κs = search needs
 
 enum-known-answer-2 : tie.Need-enum-known-answer-2
 enum-known-answer-2 c = search needs
 
-write-word-requires-3 : tie.Need-write-word-requires-3
-write-word-requires-3 c κs = search needs
+first-requires-3 : tie.Need-first-requires-3
+first-requires-3 c κs = search needs
 
-add-word-requires-3 : tie.Need-add-word-requires-3
-add-word-requires-3 c κs = search needs
+next-requires-3 : tie.Need-next-requires-3
+next-requires-3 c κs = search needs
 
-slice-aggregate-write-all : tie.Need-slice-aggregate-write-all
-slice-aggregate-write-all c = search needs
-
-write-all-requires : tie.Need-write-all-requires
-write-all-requires c κs = search needs
+end-line-requires : tie.Need-end-line-requires
+end-line-requires c κs = search needs
 
 returns : tie.Need-returns
 returns c = search needs
@@ -60,15 +57,14 @@ write-line-spec =
     (tie.spec
     check-table-requires
     enum-known-answer
-    write-word-requires
-    add-word-requires
+    first-requires
+    next-requires
     write-terms-requires
     enum-told
-    write-word-requires-2
-    add-word-requires-2
+    first-requires-2
+    next-requires-2
     enum-known-answer-2
-    write-word-requires-3
-    add-word-requires-3
-    slice-aggregate-write-all
-    write-all-requires
+    first-requires-3
+    next-requires-3
+    end-line-requires
     returns)

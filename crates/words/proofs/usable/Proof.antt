@@ -1,16 +1,16 @@
--- `sheet_lines::usable` meets its contract. Assumes nothing.
+-- `words::usable` meets its contract: a number that passes the tests is in range. Assumes nothing.
 use mathlib.Core.Path.{_≡_}
 use mathlib.Core.Logic.{inl, inr}
 use mathlib.Core.Bool.{false, false≢true}
 use Prim.Native.Nat.{_≤_}
 use native.Mathlib.Omega.{arith}
-use borrow.Author.Tests.{eqb-true}
+use borrow.Author.Tests.{eqb-true, leb-true}
 use Rattle.sheet.specs.declared.Sheet.{Sheet}
 use Rattle.sheet.specs.Number.{plainZero}
 use Rattle.sheet.specs.Range.{InRange}
 use Rattle.sheet.proofs.Live.{bias-is}
-use Rattle.sheet_lines.proofs.usable.Statement.{statement}
-use Rattle.sheet_lines.proofs.usable.Tie as tie
+use Rattle.words.proofs.usable.Statement.{statement}
+use Rattle.words.proofs.usable.Tie as tie
 
 nothing : (s : Sheet) → s .m ≡ 0 → s .neg ≡ false → s .e ≡ 0 → InRange s
 nothing s m n e =
@@ -38,12 +38,9 @@ returns-5 : tie.Need-returns-5
 returns-5 c h = absurd (false≢true h)
 
 returns-6 : tie.Need-returns-6
-returns-6 c h = absurd (false≢true h)
-
-returns-7 : tie.Need-returns-7
-returns-7 c h =
-    digits (c .before .before .before .before .before .args .s) (c .before .before .before .if3 .left) (c .before .before .if4 .left) (c .before .if5 .left) (c .if6 .left)
+returns-6 c h =
+    let s = c .before .before .before .before .args .s in
+    digits s (c .before .before .if3 .left) (c .before .if4 .left) (c .if5 .left) (leb-true (s .e) 282144 h)
 
 pub usable-spec : {M : Type 1} → statement M
-usable-spec =
-    tie.close (tie.spec returns returns-2 returns-3 returns-4 returns-5 returns-6 returns-7)
+usable-spec = tie.close (tie.spec returns returns-2 returns-3 returns-4 returns-5 returns-6)
