@@ -93,6 +93,7 @@ def run(table, proposals, tail=b""):
 def all_runs():
     random = Random(109)
     water = samples.table5()
+    yield run(water, [], samples.sterilisers())
     yield run(water, saturation())
     yield run(water, edges(random))
     for _ in range(TABLES):

@@ -14,9 +14,18 @@ INFINITY, NAN = f64.word(float("inf")), f64.word(float("nan"))
 NEGATIVE = 1 << 63  # the bits of -0.0, and the sign of any f64
 
 
-def table5():
-    with open(os.path.join(ROOT, "data", "terms.bin"), "rb") as file:
+def data(name):
+    with open(os.path.join(ROOT, "data", name), "rb") as file:
         return file.read()
+
+
+def table5():
+    return data("terms.bin")
+
+
+def sterilisers():
+    """A steriliser's proposals, as the bench program reads them."""
+    return data("proposals.bin")
 
 
 # f64s

@@ -1,0 +1,64 @@
+#!/usr/bin/env python3
+"""Makes data/proposals.bin, a steriliser's proposals as the bench program reads them, and data/lines.txt, what it answers.
+
+The temperatures are those of a steriliser's plugs, the densities the rough search's (tests/rough_search.py), rounded to
+eight digits so that every machine makes the same file.  The tolerances are a little above the brackets' widths in
+docs/TOLERANCES.md.  The last five are wrong on purpose.  Lines come from the second program, with data/terms.bin.
+`python3 data/propose.py` writes both files.  Assumes nothing.
+"""
+
+import math
+import os
+import struct
+import sys
+
+HERE = os.path.dirname(os.path.abspath(__file__))
+ROOT = os.path.dirname(HERE)
+sys.path[:0] = [ROOT, os.path.join(ROOT, "tests")]
+
+import rough_search  # noqa: E402
+from second.bench import lines  # noqa: E402
+
+CELSIUS = [100, 105, 110, 115, 118, 121, 126, 134, 140]
+TOLERANCES = (1000.0, 1.0)  # Pa and J/kg, for plugs from 100 degrees on
+COLD = (2000.0, 2.0)  # at room temperature the brackets are wider
+
+
+def rounded(x):
+    return float("%.8g" % x)
+
+
+def found(celsius):
+    """Temperature in K and the rough search's liquid and vapour."""
+    T = rounded(celsius + 273.15)
+    return (T,) + tuple(map(rounded, rough_search.pair(T)))
+
+
+def plugs():
+    """T, liquid, vapour, pressure tolerance, Gibbs tolerance of each proposal."""
+    yield found(25) + COLD
+    for celsius in CELSIUS:
+        yield found(celsius) + TOLERANCES
+    T, liquid, vapour = found(121)
+    yield (T, rounded(liquid + 0.01), vapour) + TOLERANCES  # a liquid that is too dense: 9
+    yield (T, liquid, rounded(vapour * 0.999)) + TOLERANCES  # a vapour that is too thin: 10
+    yield (T, liquid, vapour, 100.0, 1.0)  # the pair itself, but a tolerance below any bracket's width: 9
+    yield (T, liquid, rounded(vapour * 1000)) + TOLERANCES  # the vapour in g/m3: 7
+    yield (math.nan, liquid, vapour) + TOLERANCES  # a gauge that fell out: 3
+
+
+def proposals():
+    return b"".join(struct.pack(">5d", *plug) for plug in plugs())
+
+
+def answers():
+    """The second program's lines."""
+    with open(os.path.join(HERE, "terms.bin"), "rb") as file:
+        return "".join(line + "\n" for line in lines(file.read(), proposals()))
+
+
+if __name__ == "__main__":
+    with open(os.path.join(HERE, "proposals.bin"), "wb") as file:
+        file.write(proposals())
+    with open(os.path.join(HERE, "lines.txt"), "w", newline="\n") as file:
+        file.write(answers())
