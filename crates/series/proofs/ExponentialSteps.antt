@@ -15,11 +15,15 @@ use Rattle.bracket.specs.Rules.{ends, given, plus, times, divided, addlast}
 use Rattle.bracket.proofs.Operands.{given-whole, divided-whole, whole-divided}
 use Rattle.measure.proofs.Sizes.{Positive}
 use Rattle.series.specs.Exponential.{expTerm, expSum, expTotal, expneg}
-use Rattle.series.specs.Terms.{Factor, termsTo}
+use Rattle.series.specs.Terms.{Factor, Taken, termsTo}
 use Rattle.series.specs.declared.exponential.Terms.{Terms}
 use Rattle.series.proofs.Short.{bias-room}
 use Rattle.series.proofs.Units.{unit-part, unit-nat, unit-pos}
-use Rattle.series.proofs.ExponentialRange.{expTotal-ordered, expTotal-sized, expTerm-held, expSum-held, expProduct-held, expTotal-held}
+use Rattle.series.proofs.ExponentialHeld as held
+use Rattle.series.proofs.ExponentialHeld.{expTerm-held, expSum-held, expProduct-held, expTotal-held, total-ordered}
+use Rattle.measure.proofs.Lift.{each-map}
+use Rattle.measure.proofs.Measure.{sized-in}
+use Rattle.exact.specs.Fraction.Order.{≺→≼}
 use Rattle.series.proofs.Tight.{units-sized}
 
 -- ---- the rule
@@ -65,23 +69,29 @@ term-next X k {t} {p} {w} {r} h a b d e =
 pub sum-next : (X : Span) (k : ℕ) {s t r : Bracket} → s ≡ expSum 32 X k → t ≡ expTerm 32 X (k + 1) → r ≡ plus 32 (ends s) (ends t) → r ≡ expSum 32 X (k + 1)
 sum-next X k {s} {t} {r} a b e = e ∙ ap₂ (λ (s t : Bracket). plus 32 (ends s) (ends t)) a b ∙ sym (expSum-next 32 X k)
 
+-- what lies from 2^-57 to 64 is taken
+pub factor-taken : {X : Span} → Factor X → Taken X
+factor-taken f =
+    let x = factor-positive f in
+    record { order = f .order; above = ≺→≼ (x .low .above); sized = each-map (λ y s. sized-in (omega arith) (omega arith) (s .sized)) x }
+
 -- ---- what the calls require
 pub held-as : {a b : Bracket} → a ≡ b → Held b → Held a
 held-as e h = subst Held (sym e) h
 
-module _ {X : Span} (f : Factor X) {k : ℕ} {s : Terms} (h : k ≤ 256) (e : s ≡ termsTo X k) where
+module _ {X : Span} (f : Taken X) {k : ℕ} {s : Terms} (h : k ≤ 256) (e : s ≡ termsTo X k) where
   pub term-held : Held (s .term)
-  term-held = held-as (ap (λ (s : Terms). s .term) e) (expTerm-held (factor-ordered f) (factor-positive f) k h)
+  term-held = held-as (ap (λ (s : Terms). s .term) e) (expTerm-held f k h)
 
   pub sum-held : Held (s .sum)
-  sum-held = held-as (ap (λ (s : Terms). s .sum) e) (expSum-held (factor-ordered f) (factor-positive f) k h)
+  sum-held = held-as (ap (λ (s : Terms). s .sum) e) (expSum-held f k h)
 
   pub product-held : {p : Bracket} → p ≡ times 32 (ends (s .term)) X → Held p
   product-held i =
-      held-as (i ∙ ap (λ (s : Terms). times 32 (ends (s .term)) X) e) (expProduct-held (factor-ordered f) (factor-positive f) k h)
+      held-as (i ∙ ap (λ (s : Terms). times 32 (ends (s .term)) X) e) (expProduct-held f k h)
 
 -- ---- the end of the loop
-module _ {X : Span} (f : Factor X) {k : ℕ} {s : Terms} (h : k ≤ 256) (l : 256 ≤ k) (e : s ≡ termsTo X k) where
+module _ {X : Span} (f : Taken X) {k : ℕ} {s : Terms} (h : k ≤ 256) (l : 256 ≤ k) (e : s ≡ termsTo X k) where
   total-is : {total : Bracket} → total ≡ addlast 32 (s .sum) (s .term) → total ≡ expTotal 32 X
   unfolding expTotal
   total-is d =
@@ -89,18 +99,16 @@ module _ {X : Span} (f : Factor X) {k : ℕ} {s : Terms} (h : k ≤ 256) (l : 25
       d ∙ ap (λ (s : Terms). addlast 32 (s .sum) (s .term)) (subst (λ (k : ℕ). s ≡ termsTo X k) n e)
 
   pub total-held : {total : Bracket} → total ≡ addlast 32 (s .sum) (s .term) → Held total
-  total-held d = held-as (total-is d) (expTotal-held (factor-ordered f) (factor-positive f))
+  total-held d = held-as (total-is d) (expTotal-held f)
 
   pub total-above : {total : Bracket} → total ≡ addlast 32 (s .sum) (s .term) → nat 0 ≺ value (total .lo)
   total-above d =
       subst (λ (b : Bracket). nat 0 ≺ value (b .lo)) (sym (total-is d))
-      (expTotal-sized 31 (factor-ordered f) (factor-positive f) (lit≤ tt) .low .above)
+      (held.total-above f)
 
   pub answer-is : {total one r : Bracket} → total ≡ addlast 32 (s .sum) (s .term) → one ≡ given 32 (nat 1) → r ≡ divided 32 (ends one) (ends total)
       → r ≡ expneg 32 X
   unfolding expneg
   answer-is {total} {one} {r} d i j =
-      let o = factor-ordered f in
-      let x = factor-positive f in
       j ∙ ap (λ (b : Bracket). divided 32 (ends one) (ends b)) (total-is d)
-      ∙ whole-divided 31 1 (lit≤ tt) i (ends (expTotal 32 X)) (expTotal-ordered 31 o x) (expTotal-sized 31 o x (lit≤ tt) .low .above)
+      ∙ whole-divided 31 1 (lit≤ tt) i (ends (expTotal 32 X)) (total-ordered f) (held.total-above f)

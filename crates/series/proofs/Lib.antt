@@ -10,7 +10,9 @@ pub mod LogarithmCovers
 pub mod RatioCovers
 pub mod Sign
 pub mod Tight
+pub mod Rise
 pub mod ExponentialRange
+pub mod ExponentialHeld
 pub mod ExponentialSteps
 pub mod RatioRange
 pub mod ZRange

@@ -21,7 +21,7 @@ use Rattle.measure.specs.Measure.{Sized}
 use Rattle.measure.proofs.Lift.{each-map}
 use Rattle.measure.proofs.Measure.{between-sized, fine-sized}
 use Rattle.measure.proofs.Sizes.{given-sized, times-sized, digits-sized, positive-sized, held-of}
-use Rattle.series.specs.Logarithm.{ratioR, lnTwo}
+use Rattle.series.specs.Logarithm.{ratioR, lnTwo, lnScaled, lnRatio}
 use Rattle.series.specs.Pair.{NearOne}
 use Rattle.series.proofs.Short.{short, unit, bias-room}
 use Rattle.series.proofs.Units.{unit-part, short-part}
@@ -30,7 +30,7 @@ use Rattle.series.proofs.Tight.{powers-between}
 use Rattle.series.proofs.RatioRange.{r-least, r-most}
 use Rattle.series.proofs.ZRange.{r-digited, less-sized, more-positive}
 use Rattle.series.proofs.LogarithmHeld.{held-spelled}
-use Rattle.series.proofs.LnRatioRange.{ratioR-spelled, ratioR-ordered, multiple-summed}
+use Rattle.series.proofs.LnRatioRange.{ratioR-spelled, ratioR-ordered, multiple-summed, lnRatio-summed}
 
 -- ---- densities
 density-sized : {x : Fraction} → parts false 1 1024 ≼ x → x ≼ nat 1288 → Sized (bias - 10) (bias + 11) x
@@ -92,3 +92,10 @@ pub multiple-held : (k : ℕ) → k ≤ 20 → Held (times 32 (whole k) (ends (l
 multiple-held k h =
     held-of (omega (arith, bias-room)) (omega arith) (omega (arith, bias-room)) (over-ordered _⊗_ (whole k) (ends (lnTwo 32)))
     (each-map (λ x s. fine-sized (s .fine)) (multiple-summed 31 (lit≤ tt) (omega (arith, bias-room)) k h))
+
+-- ---- the answer
+pub lnRatio-held : {liquid vapour : Fraction} → parts false 1 1024 ≼ vapour → liquid ≼ nat 1288 → vapour ≼ liquid → Held (lnRatio 32 liquid vapour)
+unfolding lnRatio lnScaled
+lnRatio-held {liquid} {vapour} g d h =
+    held-of (omega (arith, bias-room)) (omega arith) (omega (arith, bias-room)) (over-ordered _⊕_ _ _)
+    (each-map (λ x s. fine-sized (s .fine)) (lnRatio-summed 31 (lit≤ tt) (omega (arith, bias-room)) g d h))

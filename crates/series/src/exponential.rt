@@ -5,7 +5,7 @@ ghost use Prim.Native.Nat.{_+_, _<_};
 ghost use Rattle.bracket.specs.Rules.{ends};
 ghost use Rattle.bracket.specs.Held.{Held};
 ghost use Rattle.series.specs.Exponential.{expneg};
-ghost use Rattle.series.specs.Terms.{Factor, termsTo};
+ghost use Rattle.series.specs.Terms.{Taken, termsTo};
 
 // Term k, and the sum of the terms 0 to k.
 struct Terms {
@@ -15,7 +15,7 @@ struct Terms {
 
 // Term k + 1 is (term k times x) divided by k + 1.
 fn one_more(x: Bracket, s: Terms, k: u64) -> Terms
-    requires { ⌜ Held x × Factor (ends x) × (k < 256) × (s ≡ termsTo (ends x) k) ⌝ }
+    requires { ⌜ Held x × Taken (ends x) × (k < 256) × (s ≡ termsTo (ends x) k) ⌝ }
     ensures { λ r. ⌜ r ≡ termsTo (ends x) (k + 1) ⌝ }
 {
     let product = bracket::product(s.term, x);
@@ -26,7 +26,7 @@ fn one_more(x: Bracket, s: Terms, k: u64) -> Terms
 
 // The last term's upper end counts once more in the upper end of the sum, and 1 is divided by that.
 pub fn expneg(x: Bracket) -> Bracket
-    requires { ⌜ Held x × Factor (ends x) ⌝ }
+    requires { ⌜ Held x × Taken (ends x) ⌝ }
     ensures { λ r. ⌜ r ≡ expneg 32 (ends x) ⌝ }
 {
     let one = bracket::whole(1);

@@ -3,6 +3,7 @@ use Prim.Native.Nat.{_-_, _≤_}
 use lib.ListN.{length}
 use native.Mathlib.Omega.{arith}
 use borrow.Author.Needs.{needs}
+use Rattle.series.proofs.ExponentialSteps.{factor-taken}
 use Rattle.marks.proofs.exponentials.marks_exponential.Statement.{statement}
 use Rattle.marks.proofs.exponentials.marks_exponential.Tie as tie
 
@@ -22,7 +23,7 @@ argument-requires : tie.Need-argument-requires Inv-loop μ-loop
 argument-requires c κs = search needs
 
 expneg-requires : tie.Need-expneg-requires Inv-loop μ-loop
-expneg-requires c κs = search needs
+expneg-requires c κs = (c .argument .ensures .0, factor-taken (c .argument .ensures .1))
 
 wrapping-add-u64-requires : tie.Need-wrapping-add-u64-requires Inv-loop μ-loop
 wrapping-add-u64-requires c κs = search needs

@@ -29,7 +29,7 @@ loop-holds c =
 one-more-requires : tie.Need-one-more-requires Inv-loop μ-loop
 one-more-requires c κs =
     let p = c .before .before .before .pre in
-    (p .0, p .1, c .loop-test .taken, c .before .loop .inv .1)
+    (p .0, p .1, omega arith, c .before .loop .inv .1)
 
 add-k : tie.Need-add-k Inv-loop μ-loop
 add-k c = omega arith

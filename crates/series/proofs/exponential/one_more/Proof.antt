@@ -7,8 +7,8 @@ use borrow.Author.Needs.{needs}
 use Rattle.bracket.specs.Rules.{ends}
 use Rattle.bracket.proofs.Operands.{whole-held}
 use Rattle.series.specs.declared.exponential.Terms.{Terms}
-use Rattle.series.proofs.ExponentialRange.{expTerm-held}
-use Rattle.series.proofs.ExponentialSteps.{held-as, term-held, sum-held, product-held, whole-above, term-next, sum-next, factor-ordered, factor-positive}
+use Rattle.series.proofs.ExponentialHeld.{expTerm-held}
+use Rattle.series.proofs.ExponentialSteps.{held-as, term-held, sum-held, product-held, whole-above, term-next, sum-next}
 use Rattle.series.proofs.exponential.one_more.Statement.{statement}
 use Rattle.series.proofs.exponential.one_more.Tie as tie
 
@@ -37,7 +37,7 @@ sum-requires c κs =
     let k = c .before .before .before .args .k in
     let e =
     term-next X k (p .2) (ap (λ (s : Terms). s .term) (p .3)) (c .before .before .product .ensures) (c .before .whole .ensures) (c .quotient .ensures) in
-    (sum-held (p .1) (omega arith) (p .3), held-as e (expTerm-held (factor-ordered (p .1)) (factor-positive (p .1)) (k + 1) (omega arith)))
+    (sum-held (p .1) (omega arith) (p .3), held-as e (expTerm-held (p .1) (k + 1) (omega arith)))
 
 returns : tie.Need-returns
 returns c =

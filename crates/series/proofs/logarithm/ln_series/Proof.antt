@@ -32,7 +32,7 @@ loop-holds c =
 
 one-more-requires : tie.Need-one-more-requires Inv-loop μ-loop
 one-more-requires c κs =
-    (c .before .before .before .before .pre, c .loop-test .taken, c .before .before .before .product .ensures, c .before .loop .inv .1)
+    (c .before .before .before .before .pre, omega arith, c .before .before .before .product .ensures, c .before .loop .inv .1)
 
 add-j : tie.Need-add-j Inv-loop μ-loop
 add-j c = omega arith

@@ -1,0 +1,60 @@
+// The bench program of document 01: a table of terms from `terms.bin`, proposals from standard input, one line for each.
+// What a line says is proved (`answer_line`, `cut_line`); the rest reads, calls and writes.
+mod answer;
+
+ghost use Rattle.line.specs.Line.{Within};
+ghost use Rattle.io.specs.Counts.{Counts};
+use answer::answer_line;
+use answer::cut_line;
+use libc::STDIN_FILENO;
+use libc::STDOUT_FILENO;
+use line::Line;
+
+fn main() {
+    let mut table = [0u8; 577];
+    let length = read_table(&mut table);
+    answer_all(&table[..length]);
+}
+
+// The table's bytes, and how many there are: none where there is no file, 577 where it is longer than any sound table.
+fn read_table(table: &mut [u8]) -> usize
+    ensures { λ r. ⌜ Counts r (now (table .exit)) ⌝ }
+{
+    let file = os::open_read(b"terms.bin");
+    if file < 0 {
+        return 0;
+    }
+    let length = io::read_full(file, table);
+    libc::close(file);
+    length
+}
+
+// A proved loop has to end, and nothing says that the input does: the count's own end, which no run meets, is the last.
+fn answer_all(table: &[u8]) {
+    let mut count: u64 = 1;
+    while count < u64::MAX && answer_one(table, count) {
+        count += 1;
+    }
+}
+
+// One proposal, from as many pieces as the input comes in. Answers whether another may follow.
+fn answer_one(table: &[u8], count: u64) -> bool {
+    let mut proposal = [0u8; 40];
+    let got = io::read_full(STDIN_FILENO, &mut proposal);
+    if got == 0 {
+        return false;
+    }
+    if got < 40 {
+        write_line(cut_line(count));
+        return false;
+    }
+    write_line(answer_line(table, count, &proposal))
+}
+
+fn write_line(line: Line) -> bool
+    requires { ⌜ Within line ⌝ }
+{
+    let bytes = line.bytes;
+    let len = line.len;
+    io::write_all(STDOUT_FILENO, &bytes[..len])
+}

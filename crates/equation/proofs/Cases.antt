@@ -1,0 +1,54 @@
+-- The rules as the code follows them: by whether c is 0, and the sums from one term to the next. Assumes nothing.
+use mathlib.Core.Path.{_≡_, refl}
+use mathlib.Core.List.{List}
+use Prim.Native.Nat.{ℕ, zero, suc, _+_, _*_, _<_}
+use native.Mathlib.Numerals.{add-one}
+use native.Mathlib.Omega.{arith}
+use Rattle.exact.specs.Fraction.{Fraction, nat}
+use Rattle.term.specs.Packed.{termAt, countTerms}
+use Rattle.bracket.specs.declared.Bracket.{Bracket}
+use Rattle.bracket.specs.Span.{whole}
+use Rattle.bracket.specs.Rules.{ends, given, minus, times}
+use Rattle.series.specs.Exponential.{expneg}
+use Rattle.equation.specs.Rules.{delta, tau, factorE, termW, factorW, factorS2, addends, plusEach, noSums, sumsFirst, sums}
+
+module _ (w c : ℕ) (g : Bracket) where
+  pub factorE-none : c ≡ 0 → given w (nat 1) ≡ factorE w c g
+  unfolding factorE
+  factorE-none e = rw e
+
+  pub termW-none : (d : ℕ) → c ≡ 0 → given w (nat d) ≡ termW w d c g
+  unfolding termW
+  termW-none d e = rw e
+
+  pub factorS2-none : (tw : Bracket) → c ≡ 0 → factorW w tw ≡ factorS2 w c g tw
+  unfolding factorS2
+  factorS2-none tw e = rw e
+
+pub factorE-some : (w c : ℕ) (g : Bracket) → 0 < c → expneg w (ends g) ≡ factorE w c g
+unfolding factorE
+factorE-some w zero g p = absurd (omega arith)
+factorE-some w (suc c) g p = refl
+
+pub termW-some : (w d c : ℕ) (g : Bracket) → 0 < c → minus w (whole d) (ends (times w (whole c) (ends g))) ≡ termW w d c g
+unfolding termW
+termW-some w d zero g p = absurd (omega arith)
+termW-some w d (suc c) g p = refl
+
+pub factorS2-some : (w c : ℕ) (g tw : Bracket) → 0 < c → minus w (ends (factorW w tw)) (ends (times w (whole (c * c)) (ends g))) ≡ factorS2 w c g tw
+unfolding factorS2
+factorS2-some w zero g tw p = absurd (omega arith)
+factorS2-some w (suc c) g tw p = refl
+
+pub sumsFirst-none : (w : ℕ) (table : List ℕ) (a b : Bracket) → noSums w ≡ sumsFirst w table a b 0
+unfolding sumsFirst
+sumsFirst-none w table a b = refl
+
+pub sumsFirst-more : (w : ℕ) (table : List ℕ) (a b : Bracket) (n : ℕ)
+    → plusEach w (sumsFirst w table a b n) (addends w (termAt table n) a b) ≡ sumsFirst w table a b (n + 1)
+unfolding sumsFirst
+sumsFirst-more w table a b n = rw add-one
+
+pub sums-is : (w : ℕ) (table : List ℕ) (T rho : Fraction) → sumsFirst w table (delta w rho) (tau w T) (countTerms table) ≡ sums w table T rho
+unfolding sums
+sums-is w table T rho = refl

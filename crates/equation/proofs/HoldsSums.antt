@@ -1,0 +1,64 @@
+-- The sums over a table at 32 bits are held and in range, term by term. Assumes nothing.
+use mathlib.Core.Path.{_≡_}
+use mathlib.Core.Bool.{true}
+use mathlib.Core.List.{List}
+use Prim.Native.Nat.{ℕ, zero, suc, _+_, _-_, _*_, _/_, _≤_, _<_}
+use native.Mathlib.Nat.{le-trans, le-refl}
+use native.Mathlib.Omega.{arith}
+use lib.ListN.{length}
+use Rattle.exact.specs.Fraction.{Fraction, nat, _⊕_}
+use Rattle.sheet.specs.Number.{bias}
+use Rattle.term.specs.declared.Term.{Term}
+use Rattle.term.specs.Bounds.{Bounds, Whole}
+use Rattle.term.specs.Packed.{termAt, countTerms}
+use Rattle.term.specs.Sound.{soundTable}
+use Rattle.term.proofs.Answers.{sound-whole, sound-bounds}
+use Rattle.bracket.specs.declared.Bracket.{Bracket}
+use Rattle.bracket.specs.Span.{Span, Each}
+use Rattle.bracket.specs.Rules.{ends, plus}
+use Rattle.bracket.specs.Held.{Held}
+use Rattle.bracket.proofs.Operands.{whole-held}
+use Rattle.measure.proofs.Sizes.{Summed}
+use Rattle.equation.specs.declared.Sums.{Sums}
+use Rattle.equation.specs.Accepted.{Temperature, Density}
+use Rattle.equation.specs.Ranged.{DeltaIn, TauIn, GIn, VIn, WIn, AllHeld, EachSum, Ranged, SumsIn}
+use Rattle.equation.specs.Rules.{delta, tau, factorE, termV, termW, addendsOf, addends, plusEach, noSums, sumsFirst, sums}
+use Rattle.equation.proofs.Weaker.{summed-digits}
+use Rattle.equation.proofs.Ranges.{room, sumsFirst-summed, sums-ranged}
+use Rattle.equation.proofs.Holds.{combined-held, delta-in, tau-in, g-in, e-in, v-in, w-in, addend1-held, addend2-held}
+
+-- one term's addends
+module _ (term : Term) (a b : Bracket) (s : Bounds term) (p : DeltaIn a) (q : TauIn b) where
+  pub addends-held : AllHeld (addends 32 term a b)
+  unfolding addends addendsOf
+  addends-held =
+      let g = g-in a p (term .c) (s .c-below) in
+      let v = v-in a b p q term s _ (e-in (term .c) (s .c-below) _ g) in
+      let w = w-in _ g (term .d) (term .c) (s .d-above) (s .d-below) (s .c-below) in
+      record { s0 = v .held; s1 = addend1-held _ w _ g _ v; s2 = addend2-held _ w _ g _ v (term .c) (s .c-below) }
+
+module _ (table : List ℕ) (sound : soundTable table ≡ true) (a b : Bracket) (p : DeltaIn a) (q : TauIn b) where
+  few : countTerms table ≤ 64
+  few = let w = sound-whole table sound in let m = w .most in let e = w .nines in omega arith
+
+  first-summed : (n : ℕ) → n ≤ countTerms table → EachSum (Summed 31 (bias - 697) (bias + 123 + n)) (sumsFirst 32 table a b n)
+  first-summed n l = sumsFirst-summed 31 (omega arith) (omega arith) table a b (p .each) (q .each) n (λ k i. sound-bounds table sound k (le-trans i l))
+
+  one-held : (A B : Span) (n : ℕ) → n ≤ countTerms table → Each (Summed 31 (bias - 697) (bias + 123 + n)) (ends (plus 32 A B)) → Held (plus 32 A B)
+  one-held A B n l e = let r = room in let f = few in combined-held _⊕_ A B (omega arith) (omega arith) (summed-digits e)
+
+  held-by : (n : ℕ) → n ≤ countTerms table → EachSum (Summed 31 (bias - 697) (bias + 123 + n)) (sumsFirst 32 table a b n) → AllHeld (sumsFirst 32 table a b n)
+  unfolding sumsFirst noSums plusEach
+  held-by zero l e = let h = whole-held 0 (omega arith) in record { s0 = h; s1 = h; s2 = h }
+  held-by (suc n) l e = record { s0 = one-held _ _ (suc n) l (e .s0); s1 = one-held _ _ (suc n) l (e .s1); s2 = one-held _ _ (suc n) l (e .s2) }
+
+  pub first-held : (n : ℕ) → n ≤ countTerms table → AllHeld (sumsFirst 32 table a b n)
+  first-held n l = held-by n l (first-summed n l)
+
+pub sums-in : (table : List ℕ) → soundTable table ≡ true → {T rho : Fraction} → Temperature T → Density rho → SumsIn (sums 32 table T rho)
+unfolding sums
+sums-in table sound t d =
+    record {
+      held = first-held table sound _ _ (delta-in d) (tau-in t) (countTerms table) (le-refl _);
+      ranged = sums-ranged 31 (omega arith) (omega arith) table sound t d;
+    }

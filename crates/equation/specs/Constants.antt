@@ -1,0 +1,21 @@
+-- The constants of document 01 and a term's coefficient, as exact values. Assumes nothing.
+use Prim.Native.Nat.{ℕ, _^_}
+use mathlib.Core.Bool.{false}
+use Rattle.exact.specs.Fraction.{Fraction, parts}
+use Rattle.term.specs.declared.Term.{Term}
+
+-- 647.14 K
+abbrev pub criticalTemperature : Fraction
+criticalTemperature = parts false 64714 100
+
+-- 322 kg/m3
+abbrev pub criticalDensity : ℕ
+criticalDensity = 322
+
+-- 461.51805 J/(kg K)
+abbrev pub gasConstant : Fraction
+gasConstant = parts false 46151805 100000
+
+-- the magnitude counts units of ten to the minus 16
+abbrev pub exactCoefficient : Term → Fraction
+exactCoefficient term = parts (term .negative) (term .magnitude) (10 ^ 16)

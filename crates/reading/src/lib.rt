@@ -1,0 +1,41 @@
+// An answer's values as whole numbers: the number, the place, and each end as its f64's bits.
+mod check;
+mod refusal;
+mod sheet;
+
+ghost use mathlib.Core.Path.{_≡_};
+ghost use Rattle.verdict.specs.Reading.{Finite, SheetFinite};
+ghost use Rattle.reading.specs.Values.{checkValues, sheetValues};
+use verdict::Answer;
+use verdict::SheetAnswer;
+
+// The density check and the pair check: number, place, lower end, upper end.
+pub fn of_check(answer: Answer) -> [u64; 4]
+    requires { ⌜ Finite answer ⌝ }
+    ensures { λ r. ⌜ r ≡ checkValues answer ⌝ }
+{
+    let ends = check::ends(answer);
+    [
+        check::number(answer),
+        check::place(answer),
+        f64::to_bits(ends.lower),
+        f64::to_bits(ends.upper),
+    ]
+}
+
+// The state sheet: number, place, the two ends of pressure, the two ends of stiffness.
+pub fn of_sheet(answer: SheetAnswer) -> [u64; 6]
+    requires { ⌜ SheetFinite answer ⌝ }
+    ensures { λ r. ⌜ r ≡ sheetValues answer ⌝ }
+{
+    let pressure = sheet::pressure(answer);
+    let stiffness = sheet::stiffness(answer);
+    [
+        sheet::number(answer),
+        sheet::place(answer),
+        f64::to_bits(pressure.lower),
+        f64::to_bits(pressure.upper),
+        f64::to_bits(stiffness.lower),
+        f64::to_bits(stiffness.upper),
+    ]
+}

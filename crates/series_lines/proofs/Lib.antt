@@ -1,0 +1,2 @@
+-- What the program's tests show. Assumes nothing.
+mod Ends

@@ -1,0 +1,2 @@
+-- What the program asks of its input. Assumes nothing.
+pub mod End

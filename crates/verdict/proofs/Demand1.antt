@@ -1,0 +1,195 @@
+-- Demand 1: which number each kind of bad input gets, in order, with zero ends and the place of a broken term. `FailsAt k` of a call's steps
+-- (`specs/Rules.antt`) says that its check k, counted from 0, fails and that none before it does. Assumes nothing.
+use Prim.Native.Nat.{ℕ, _<_}
+use mathlib.Core.Path.{_≡_, refl, sym, _∙_, ap}
+use mathlib.Core.Bool.{Bool, true, false}
+use mathlib.Core.List.{List, [], _∷_}
+use mathlib.Core.Logic.{_↔_}
+use native.Mathlib.Omega.{arith}
+use lib.Ieee.{Float}
+use Rattle.term.specs.Sound.{firstBroken}
+use Rattle.verdict.specs.declared.Refusal.{Refusal}
+use Rattle.verdict.specs.declared.Refusal.the-variants.{TableLength, BrokenTerm, Temperature, Density, Target, Tolerance, Sides, Ceiling}
+use Rattle.verdict.specs.declared.SheetAnswer.{SheetAnswer}
+use Rattle.verdict.specs.declared.SheetAnswer.the-variants as sheet
+use Rattle.verdict.specs.declared.Answer.{Answer}
+use Rattle.verdict.specs.declared.Answer.the-variants.{Accepted, Refused, PressureGap, GibbsGap, Stiffness}
+use Rattle.verdict.specs.Reading.{number, place, handed, zeros, sheetNumber, sheetPlace, sheetPressure, sheetStiffness, refusalPlace, refusalNumber}
+use Rattle.verdict.specs.Steps.{FailsAt, firstFailing}
+use Rattle.verdict.specs.Rules.{stateSteps, stateAnswer, densitySteps, densityAnswer, pairSteps, pairAnswer}
+use Rattle.verdict.proofs.Order.{exactly, on-pass, on-fail}
+
+-- ---- zeros: the numbers 1 to 8 hand out nothing, and only 2 has a place
+pub refused-zeros : (a : Answer) → 0 < number a → number a < 9 → handed a ≡ zeros
+refused-zeros (Accepted ends) h k = absurd (omega arith)
+refused-zeros (Refused why) h k = refl
+refused-zeros (PressureGap ends) h k = absurd (omega arith)
+refused-zeros (GibbsGap ends) h k = absurd (omega arith)
+refused-zeros (Stiffness ends) h k = absurd (omega arith)
+
+refusal-place : (why : Refusal) → (refusalNumber why ≡ 2 → ⊥) → refusalPlace why ≡ 0
+refusal-place TableLength h = refl
+refusal-place (BrokenTerm place) h = absurd (h refl)
+refusal-place Temperature h = refl
+refusal-place Density h = refl
+refusal-place Target h = refl
+refusal-place Tolerance h = refl
+refusal-place Sides h = refl
+refusal-place Ceiling h = refl
+
+pub no-place : (a : Answer) → (number a ≡ 2 → ⊥) → place a ≡ 0
+no-place (Accepted ends) h = refl
+no-place (Refused why) h = refusal-place why h
+no-place (PressureGap ends) h = refl
+no-place (GibbsGap ends) h = refl
+no-place (Stiffness ends) h = refl
+
+pub sheet-zeros : (a : SheetAnswer) → 0 < sheetNumber a → (sheetPressure a ≡ zeros) × (sheetStiffness a ≡ zeros)
+sheet-zeros (sheet.Answered p s) h = absurd (omega arith)
+sheet-zeros (sheet.Refused why) h = (refl, refl)
+
+pub sheet-no-place : (a : SheetAnswer) → (sheetNumber a ≡ 2 → ⊥) → sheetPlace a ≡ 0
+sheet-no-place (sheet.Answered p s) h = refl
+sheet-no-place (sheet.Refused why) h = refusal-place why h
+
+-- ---- the state sheet
+module _ (w : ℕ) (table : List ℕ) (t rho : Float) where
+  -- the table's length
+  pub state-1 : sheetNumber (stateAnswer w table t rho) ≡ 1 ↔ FailsAt 0 (stateSteps w table t rho)
+  unfolding stateAnswer
+  state-1 = exactly sheetNumber 1 0 (stateSteps w table t rho) _ tt
+
+  -- a term breaks a rule
+  pub state-2 : sheetNumber (stateAnswer w table t rho) ≡ 2 ↔ FailsAt 1 (stateSteps w table t rho)
+  unfolding stateAnswer
+  state-2 = exactly sheetNumber 2 1 (stateSteps w table t rho) _ tt
+
+  -- temperature
+  pub state-3 : sheetNumber (stateAnswer w table t rho) ≡ 3 ↔ FailsAt 2 (stateSteps w table t rho)
+  unfolding stateAnswer
+  state-3 = exactly sheetNumber 3 2 (stateSteps w table t rho) _ tt
+
+  -- density
+  pub state-4 : sheetNumber (stateAnswer w table t rho) ≡ 4 ↔ FailsAt 3 (stateSteps w table t rho)
+  unfolding stateAnswer
+  state-4 = exactly sheetNumber 4 3 (stateSteps w table t rho) _ tt
+
+  -- the upper end of pressure is above the ceiling
+  pub state-8 : sheetNumber (stateAnswer w table t rho) ≡ 8 ↔ FailsAt 4 (stateSteps w table t rho)
+  unfolding stateAnswer
+  state-8 = exactly sheetNumber 8 4 (stateSteps w table t rho) _ tt
+
+  -- the place is that of the first broken term
+  pub state-place : sheetNumber (stateAnswer w table t rho) ≡ 2 → sheetPlace (stateAnswer w table t rho) ≡ firstBroken table
+  unfolding stateAnswer
+  state-place e =
+      let f = state-2 .0 e in
+      ap sheetPlace (on-pass _ _ _ (f .0) ∙ on-fail _ _ _ (f .1))
+
+-- ---- the density check
+module _ (w : ℕ) (table : List ℕ) (t rho target tolerance : Float) where
+  -- the table's length
+  pub density-1 : number (densityAnswer w table t rho target tolerance) ≡ 1 ↔ FailsAt 0 (densitySteps w table t rho target tolerance)
+  unfolding densityAnswer
+  density-1 = exactly number 1 0 (densitySteps w table t rho target tolerance) _ tt
+
+  -- a term breaks a rule
+  pub density-2 : number (densityAnswer w table t rho target tolerance) ≡ 2 ↔ FailsAt 1 (densitySteps w table t rho target tolerance)
+  unfolding densityAnswer
+  density-2 = exactly number 2 1 (densitySteps w table t rho target tolerance) _ tt
+
+  -- temperature
+  pub density-3 : number (densityAnswer w table t rho target tolerance) ≡ 3 ↔ FailsAt 2 (densitySteps w table t rho target tolerance)
+  unfolding densityAnswer
+  density-3 = exactly number 3 2 (densitySteps w table t rho target tolerance) _ tt
+
+  -- density
+  pub density-4 : number (densityAnswer w table t rho target tolerance) ≡ 4 ↔ FailsAt 3 (densitySteps w table t rho target tolerance)
+  unfolding densityAnswer
+  density-4 = exactly number 4 3 (densitySteps w table t rho target tolerance) _ tt
+
+  -- target pressure
+  pub density-5 : number (densityAnswer w table t rho target tolerance) ≡ 5 ↔ FailsAt 4 (densitySteps w table t rho target tolerance)
+  unfolding densityAnswer
+  density-5 = exactly number 5 4 (densitySteps w table t rho target tolerance) _ tt
+
+  -- tolerance
+  pub density-6 : number (densityAnswer w table t rho target tolerance) ≡ 6 ↔ FailsAt 5 (densitySteps w table t rho target tolerance)
+  unfolding densityAnswer
+  density-6 = exactly number 6 5 (densitySteps w table t rho target tolerance) _ tt
+
+  -- the upper end of pressure is above the ceiling
+  pub density-8 : number (densityAnswer w table t rho target tolerance) ≡ 8 ↔ FailsAt 6 (densitySteps w table t rho target tolerance)
+  unfolding densityAnswer
+  density-8 = exactly number 8 6 (densitySteps w table t rho target tolerance) _ tt
+
+  -- the pressure less the target does not pass
+  pub density-9 : number (densityAnswer w table t rho target tolerance) ≡ 9 ↔ FailsAt 7 (densitySteps w table t rho target tolerance)
+  unfolding densityAnswer
+  density-9 = exactly number 9 7 (densitySteps w table t rho target tolerance) _ tt
+
+  -- the stiffness does not pass
+  pub density-11 : number (densityAnswer w table t rho target tolerance) ≡ 11 ↔ FailsAt 8 (densitySteps w table t rho target tolerance)
+  unfolding densityAnswer
+  density-11 = exactly number 11 8 (densitySteps w table t rho target tolerance) _ tt
+
+  -- the place is that of the first broken term
+  pub density-place : number (densityAnswer w table t rho target tolerance) ≡ 2 → place (densityAnswer w table t rho target tolerance) ≡ firstBroken table
+  unfolding densityAnswer
+  density-place e =
+      let f = density-2 .0 e in
+      ap place (on-pass _ _ _ (f .0) ∙ on-fail _ _ _ (f .1))
+
+-- ---- the pair check
+module _ (w : ℕ) (table : List ℕ) (t liquid vapour pressureTolerance gibbsTolerance : Float) where
+  -- the table's length
+  pub pair-1 : number (pairAnswer w table t liquid vapour pressureTolerance gibbsTolerance) ≡ 1 ↔ FailsAt 0 (pairSteps w table t liquid vapour pressureTolerance gibbsTolerance)
+  unfolding pairAnswer
+  pair-1 = exactly number 1 0 (pairSteps w table t liquid vapour pressureTolerance gibbsTolerance) _ tt
+
+  -- a term breaks a rule
+  pub pair-2 : number (pairAnswer w table t liquid vapour pressureTolerance gibbsTolerance) ≡ 2 ↔ FailsAt 1 (pairSteps w table t liquid vapour pressureTolerance gibbsTolerance)
+  unfolding pairAnswer
+  pair-2 = exactly number 2 1 (pairSteps w table t liquid vapour pressureTolerance gibbsTolerance) _ tt
+
+  -- temperature
+  pub pair-3 : number (pairAnswer w table t liquid vapour pressureTolerance gibbsTolerance) ≡ 3 ↔ FailsAt 2 (pairSteps w table t liquid vapour pressureTolerance gibbsTolerance)
+  unfolding pairAnswer
+  pair-3 = exactly number 3 2 (pairSteps w table t liquid vapour pressureTolerance gibbsTolerance) _ tt
+
+  -- a density
+  pub pair-4 : number (pairAnswer w table t liquid vapour pressureTolerance gibbsTolerance) ≡ 4 ↔ FailsAt 3 (pairSteps w table t liquid vapour pressureTolerance gibbsTolerance)
+  unfolding pairAnswer
+  pair-4 = exactly number 4 3 (pairSteps w table t liquid vapour pressureTolerance gibbsTolerance) _ tt
+
+  -- a tolerance
+  pub pair-6 : number (pairAnswer w table t liquid vapour pressureTolerance gibbsTolerance) ≡ 6 ↔ FailsAt 4 (pairSteps w table t liquid vapour pressureTolerance gibbsTolerance)
+  unfolding pairAnswer
+  pair-6 = exactly number 6 4 (pairSteps w table t liquid vapour pressureTolerance gibbsTolerance) _ tt
+
+  -- a density on the wrong side of 322
+  pub pair-7 : number (pairAnswer w table t liquid vapour pressureTolerance gibbsTolerance) ≡ 7 ↔ FailsAt 5 (pairSteps w table t liquid vapour pressureTolerance gibbsTolerance)
+  unfolding pairAnswer
+  pair-7 = exactly number 7 5 (pairSteps w table t liquid vapour pressureTolerance gibbsTolerance) _ tt
+
+  -- an upper end of pressure is above the ceiling
+  pub pair-8 : number (pairAnswer w table t liquid vapour pressureTolerance gibbsTolerance) ≡ 8 ↔ FailsAt 6 (pairSteps w table t liquid vapour pressureTolerance gibbsTolerance)
+  unfolding pairAnswer
+  pair-8 = exactly number 8 6 (pairSteps w table t liquid vapour pressureTolerance gibbsTolerance) _ tt
+
+  -- the pressure gap does not pass
+  pub pair-9 : number (pairAnswer w table t liquid vapour pressureTolerance gibbsTolerance) ≡ 9 ↔ FailsAt 7 (pairSteps w table t liquid vapour pressureTolerance gibbsTolerance)
+  unfolding pairAnswer
+  pair-9 = exactly number 9 7 (pairSteps w table t liquid vapour pressureTolerance gibbsTolerance) _ tt
+
+  -- the Gibbs gap does not pass
+  pub pair-10 : number (pairAnswer w table t liquid vapour pressureTolerance gibbsTolerance) ≡ 10 ↔ FailsAt 8 (pairSteps w table t liquid vapour pressureTolerance gibbsTolerance)
+  unfolding pairAnswer
+  pair-10 = exactly number 10 8 (pairSteps w table t liquid vapour pressureTolerance gibbsTolerance) _ tt
+
+  -- the place is that of the first broken term
+  pub pair-place : number (pairAnswer w table t liquid vapour pressureTolerance gibbsTolerance) ≡ 2 → place (pairAnswer w table t liquid vapour pressureTolerance gibbsTolerance) ≡ firstBroken table
+  unfolding pairAnswer
+  pair-place e =
+      let f = pair-2 .0 e in
+      ap place (on-pass _ _ _ (f .0) ∙ on-fail _ _ _ (f .1))

@@ -1,0 +1,144 @@
+-- Demand 3. First half: what is accepted holds by the equation itself, at every level from 256. Second half: what is good at some one such
+-- level, by more than the width of its brackets, is accepted, whoever proposed it. Both over the count of bits suc v, from 8. Assumes nothing.
+use Prim.Native.Nat.{ℕ, suc, _≤_}
+use mathlib.Core.Path.{_≡_, refl, sym, _∙_}
+use mathlib.Core.Bool.{Bool, true, false, _&&_}
+use mathlib.Core.List.{List}
+use lib.Ieee.{Float}
+use Rattle.exact.specs.Fraction.{Fraction, nat, _≼_}
+use Rattle.exact.specs.Fraction.Order.{≼-leq, ≺→≼, ≺-trans}
+use Rattle.sheet.specs.Number.{value}
+use Rattle.doubles.specs.Double.{exactOf}
+use Rattle.doubles.specs.Range.{acceptedDensity, acceptedTolerance}
+use Rattle.bracket.specs.declared.Bracket.{Bracket}
+use Rattle.equation.specs.Rules.{pressure, stiffness, gibbsGap, targetGap, pressureGap}
+use Rattle.equation.proofs.Covers.{covers-stiffness, covers-gibbsGap, covers-targetGap, covers-pressureGap}
+use Rattle.verdict.specs.Reading.{number}
+use Rattle.verdict.specs.Rules.{pairSteps, pairAnswer, densitySteps, densityAnswer, underCeiling}
+use Rattle.verdict.specs.Balance.{Balanced, BalancedBeyond, SoundPair, OnTarget, OnTargetBeyond, SoundDensity}
+use Rattle.verdict.proofs.Order.{accepted}
+use Rattle.verdict.proofs.Tables.{table-parts}
+use Rattle.verdict.proofs.Tests.{both, together, holds, temperature-in, density-in, sides, on-sides, gap-within, gap-beyond, pushes-above, pushes-beyond}
+
+under : (b : Bracket) → value (b .hi) ≼ nat 1000000000 → underCeiling b ≡ true
+unfolding underCeiling
+under b h = ≼-leq h
+
+-- ---- the pair
+module _ (v : ℕ) (wide : 7 ≤ v) (table : List ℕ) (t liquid vapour pressureTolerance gibbsTolerance : Float) where
+  -- what every level says of an accepted pair
+  pub accepted-pair : number (pairAnswer (suc v) table t liquid vapour pressureTolerance gibbsTolerance) ≡ 0 → (N : ℕ) → 256 ≤ N
+      → Balanced N table (exactOf t) (exactOf liquid) (exactOf vapour) (exactOf pressureTolerance) (exactOf gibbsTolerance)
+  unfolding pairAnswer
+  accepted-pair e N high =
+      let steps = accepted number 0 (pairSteps (suc v) table t liquid vapour pressureTolerance gibbsTolerance) _ tt refl .0 e in
+      let T = temperature-in t (holds (steps .1 .1 .0)) in
+      let densities = both (acceptedDensity liquid) (acceptedDensity vapour) (steps .1 .1 .1 .0) in
+      let l = density-in liquid (holds (densities .0)) in
+      let g = density-in vapour (holds (densities .1)) in
+      let apart = sides liquid vapour (steps .1 .1 .1 .1 .1 .0) in
+      let gaps = steps .1 .1 .1 .1 .1 .1 .1 in
+      record {
+        pressures = gap-within _ pressureTolerance (covers-pressureGap v N wide high table T l g) (gaps .0);
+        gibbs = gap-within _ gibbsTolerance (covers-gibbsGap v N wide high table T l g (≺→≼ (≺-trans (apart .1) (apart .0)))) (gaps .1 .0);
+        liquid-pushes = pushes-above _ (covers-stiffness v N wide high table T l) (gaps .1 .1 .0);
+        vapour-pushes = pushes-above _ (covers-stiffness v N wide high table T g) (gaps .1 .1 .1 .0);
+      }
+
+  -- some level says enough of a pair for it to be accepted
+  pub good-pair : SoundPair (suc v) table t liquid vapour pressureTolerance gibbsTolerance → (N : ℕ) → 256 ≤ N
+      → BalancedBeyond (suc v) N table (exactOf t) (exactOf liquid) (exactOf vapour) (exactOf pressureTolerance) (exactOf gibbsTolerance)
+      → number (pairAnswer (suc v) table t liquid vapour pressureTolerance gibbsTolerance) ≡ 0
+  unfolding pairAnswer
+  good-pair sound N high good =
+      let rows = table-parts table (sound .table-sound) in
+      let T = temperature-in t (holds (sound .temperature)) in
+      let l = density-in liquid (holds (sound .liquid-density)) in
+      let g = density-in vapour (holds (sound .vapour-density)) in
+      let apart = ≺→≼ (≺-trans (sound .vapour-side) (sound .liquid-side)) in
+      accepted number 0 (pairSteps (suc v) table t liquid vapour pressureTolerance gibbsTolerance) _ tt refl .1 (
+        rows .0,
+        (
+          rows .1,
+          (
+            sound .temperature,
+            (
+              together _ _ (sound .liquid-density) (sound .vapour-density),
+              (
+                together _ _ (sound .pressure-tolerance) (sound .gibbs-tolerance),
+                (
+                  on-sides liquid vapour (sound .liquid-side) (sound .vapour-side),
+                  (
+                    together _ _ (under _ (sound .liquid-ceiling)) (under _ (sound .vapour-ceiling)),
+                    (
+                      gap-beyond _ pressureTolerance (covers-pressureGap v N wide high table T l g) (good .pressures),
+                      (
+                        gap-beyond _ gibbsTolerance (covers-gibbsGap v N wide high table T l g apart) (good .gibbs),
+                        (
+                          pushes-beyond _ (covers-stiffness v N wide high table T l) (good .liquid-pushes),
+                          (
+                            pushes-beyond _ (covers-stiffness v N wide high table T g) (good .vapour-pushes),
+                            tt,
+                          ),
+                        ),
+                      ),
+                    ),
+                  ),
+                ),
+              ),
+            ),
+          ),
+        ),
+      )
+
+-- ---- the density for a given pressure
+module _ (v : ℕ) (wide : 7 ≤ v) (table : List ℕ) (t rho target tolerance : Float) where
+  pub accepted-density : number (densityAnswer (suc v) table t rho target tolerance) ≡ 0 → (N : ℕ) → 256 ≤ N
+      → OnTarget N table (exactOf t) (exactOf rho) (exactOf target) (exactOf tolerance)
+  unfolding densityAnswer
+  accepted-density e N high =
+      let steps = accepted number 0 (densitySteps (suc v) table t rho target tolerance) _ tt refl .0 e in
+      let T = temperature-in t (holds (steps .1 .1 .0)) in
+      let d = density-in rho (holds (steps .1 .1 .1 .0)) in
+      let gaps = steps .1 .1 .1 .1 .1 .1 .1 in
+      record {
+        near = gap-within _ tolerance (covers-targetGap v N wide high table T d (exactOf target)) (gaps .0);
+        pushes = pushes-above _ (covers-stiffness v N wide high table T d) (gaps .1 .0);
+      }
+
+  pub good-density : SoundDensity (suc v) table t rho target tolerance → (N : ℕ) → 256 ≤ N
+      → OnTargetBeyond (suc v) N table (exactOf t) (exactOf rho) (exactOf target) (exactOf tolerance)
+      → number (densityAnswer (suc v) table t rho target tolerance) ≡ 0
+  unfolding densityAnswer
+  good-density sound N high good =
+      let rows = table-parts table (sound .table-sound) in
+      let T = temperature-in t (holds (sound .temperature)) in
+      let d = density-in rho (holds (sound .density)) in
+      accepted number 0 (densitySteps (suc v) table t rho target tolerance) _ tt refl .1 (
+        rows .0,
+        (
+          rows .1,
+          (
+            sound .temperature,
+            (
+              sound .density,
+              (
+                sound .target-range,
+                (
+                  sound .tolerance-range,
+                  (
+                    under _ (sound .ceiling),
+                    (
+                      gap-beyond _ tolerance (covers-targetGap v N wide high table T d (exactOf target)) (good .near),
+                      (
+                        pushes-beyond _ (covers-stiffness v N wide high table T d) (good .pushes),
+                        tt,
+                      ),
+                    ),
+                  ),
+                ),
+              ),
+            ),
+          ),
+        ),
+      )

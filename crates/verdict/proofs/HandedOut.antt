@@ -1,0 +1,81 @@
+-- Ends handed out are exactly their values, so a test on the f64s is the test on the values. Assumes nothing.
+use Prim.Native.Nat.{ℕ}
+use mathlib.Core.Path.{_≡_, refl, sym, ap, ap₂, _∙_, subst}
+use mathlib.Core.Bool.{Bool, not, _&&_}
+use lib.Dec.{T, lit≤}
+use lib.Ieee.{Float, isNan}
+use lib.Ieee.Scale.{finite}
+use Rattle.exact.specs.Fraction.{Fraction, nat, negate, leq, _≈_, _≼_}
+use Rattle.exact.specs.Ends.{Within}
+use Rattle.exact.specs.Fraction.Order.{≈-sym, ≈-≼-trans, ≼-≈-trans}
+use Rattle.sheet.specs.declared.Sheet.{Sheet}
+use Rattle.sheet.specs.Number.{value}
+use Rattle.sheet.specs.Range.{Doubled}
+use Rattle.doubles.specs.Double.{exactOf}
+use Rattle.doubles.specs.Handed.{doubleOf, DoubleValue}
+use Rattle.doubles.specs.Range.{withinTolerance}
+use Rattle.doubles.proofs.Handed.{doubleOf-finite, doubleOf-exact, leq-double, double-leq}
+use Rattle.doubles.proofs.Write.{sheet-double, normal-few}
+use Rattle.doubles.proofs.Pattern.{no-nan}
+use Rattle.bracket.specs.declared.Bracket.{Bracket}
+use Rattle.bracket.specs.Span.{_∈_}
+use Rattle.bracket.specs.Rules.{ends}
+use Rattle.bracket.specs.Held.{Held, Ends as Both}
+use Rattle.verdict.specs.declared.Ends.{Ends}
+use Rattle.verdict.specs.Reading.{Numbers, zeros}
+use Rattle.verdict.specs.Rules.{handedOut, underCeiling, gapPasses, pushesBack}
+use Rattle.verdict.specs.Handed.{Handy, EndsFinite}
+
+-- a bracket in range whose ends are exactly f64s
+pub handy : (b : Bracket) → Held b → Both Doubled b → Handy b
+handy b h d =
+    record {
+      lower = d .lo;
+      lower-few = normal-few 31 (b .lo) (h .lo .normal) (lit≤ tt);
+      upper = d .hi;
+      upper-few = normal-few 31 (b .hi) (h .hi .normal) (lit≤ tt);
+    }
+
+-- finite f64s are no NaN
+pub numbers : (e : Ends) → EndsFinite (e .lower) (e .upper) → Numbers e
+numbers e f = (no-nan (e .lower) (f .lower-finite), no-nan (e .upper) (f .upper-finite))
+
+pub zeros-numbers : Numbers zeros
+unfolding isNan
+zeros-numbers = (tt, tt)
+
+module _ (b : Bracket) (h : Handy b) where
+  lower-exact : DoubleValue (value (b .lo))
+  lower-exact = sheet-double (b .lo) (h .lower) (h .lower-few)
+
+  upper-exact : DoubleValue (value (b .hi))
+  upper-exact = sheet-double (b .hi) (h .upper) (h .upper-few)
+
+  pub handed-finite : EndsFinite (handedOut b .lower) (handedOut b .upper)
+  unfolding handedOut
+  handed-finite = record { lower-finite = doubleOf-finite (value (b .lo)) lower-exact; upper-finite = doubleOf-finite (value (b .hi)) upper-exact }
+
+  -- a number in the bracket lies between the two f64s
+  pub handed-between : {x : Fraction} → x ∈ ends b → Within (exactOf (handedOut b .lower)) (exactOf (handedOut b .upper)) x
+  unfolding handedOut
+  handed-between i =
+      record {
+        above = ≈-≼-trans (doubleOf-exact (value (b .lo)) lower-exact) (i .above);
+        under = ≼-≈-trans (i .under) (≈-sym (doubleOf-exact (value (b .hi)) upper-exact));
+      }
+
+  -- ---- the tests, on f64s that are the bracket's ends
+  module _ (e : Ends) (is : e ≡ handedOut b) where
+    pub under-of : leq (exactOf (e .upper)) (nat 1000000000) ≡ underCeiling b
+    unfolding handedOut underCeiling
+    under-of = ap (λ (x : Ends). leq (exactOf (x .upper)) (nat 1000000000)) is ∙ leq-double (value (b .hi)) (nat 1000000000) upper-exact
+
+    pub passes-of : (tolerance : Float) → withinTolerance (exactOf (e .lower)) (exactOf (e .upper)) (exactOf tolerance) ≡ gapPasses b tolerance
+    unfolding handedOut gapPasses withinTolerance
+    passes-of tolerance =
+        ap (λ (x : Ends). leq (negate (exactOf tolerance)) (exactOf (x .lower)) && leq (exactOf (x .upper)) (exactOf tolerance)) is
+        ∙ ap₂ _&&_ (double-leq (value (b .lo)) (negate (exactOf tolerance)) lower-exact) (leq-double (value (b .hi)) (exactOf tolerance) upper-exact)
+
+    pub pushes-of : not (leq (exactOf (e .lower)) (nat 0)) ≡ pushesBack b
+    unfolding handedOut pushesBack
+    pushes-of = ap (λ (x : Ends). not (leq (exactOf (x .lower)) (nat 0))) is ∙ ap not (leq-double (value (b .lo)) (nat 0) lower-exact)

@@ -1,0 +1,8 @@
+pub mod Order
+pub mod Tests
+pub mod Tables
+pub mod HandedOut
+pub mod Ready
+pub mod Settled
+pub mod Demand1
+pub mod Demand3

@@ -1,0 +1,35 @@
+-- What the check of a table settles of an answer: the first two numbers, or that the other checks decide. Assumes nothing.
+use Prim.Native.Nat.{ℕ, _<_}
+use mathlib.Core.Path.{_≡_, refl, sym, ap, _∙_}
+use mathlib.Core.Bool.{true, false}
+use mathlib.Core.List.{List}
+use native.Mathlib.Omega.{arith}
+use lib.ListN.{length}
+use lib.Dec.{eqb}
+use borrow.Author.Tests.{ne-eqb}
+use Rattle.term.specs.declared.Table.the-variants.{Length, Broken}
+use Rattle.term.specs.Sound.{soundLength, firstBroken, soundTable, tableAnswer}
+use Rattle.term.proofs.Answers.{answer-length, answer-broken}
+use Rattle.verdict.specs.declared.Refusal.{Refusal}
+use Rattle.verdict.specs.declared.Refusal.the-variants.{TableLength, BrokenTerm}
+use Rattle.verdict.specs.Steps.{Step, firstFailing}
+use Rattle.verdict.specs.Rules.{tableSteps}
+use Rattle.verdict.proofs.Order.{on-pass, fails-at}
+use Rattle.verdict.proofs.Tests.{both}
+
+pub table-parts : (table : List ℕ) → soundTable table ≡ true → (soundLength (length table) ≡ true) × (eqb (firstBroken table) 0 ≡ true)
+unfolding soundTable
+table-parts table p = both (soundLength (length table)) (eqb (firstBroken table) 0) p
+
+module _ {A : Type 0} (refused : Refusal → A) (table : List ℕ) (rest : List (Step A)) (last : A) where
+  pub on-length : tableAnswer table ≡ Length → refused TableLength ≡ firstFailing (tableSteps refused table rest) last
+  on-length h = sym (fails-at 0 (tableSteps refused table rest) last (answer-length table h))
+
+  pub on-broken : (k : ℕ) → tableAnswer table ≡ Broken k → refused (BrokenTerm k) ≡ firstFailing (tableSteps refused table rest) last
+  on-broken k h =
+      let p = answer-broken table k h in
+      let other : firstBroken table ≡ 0 → ⊥ = λ z. omega (arith, p .1, p .2) in
+      ap (λ (n : ℕ). refused (BrokenTerm n)) (sym (p .1)) ∙ sym (fails-at 1 (tableSteps refused table rest) last (p .0, ne-eqb _ _ other))
+
+  pub on-sound : soundTable table ≡ true → firstFailing (tableSteps refused table rest) last ≡ firstFailing rest last
+  on-sound h = let p = table-parts table h in on-pass _ _ last (p .0) ∙ on-pass _ rest last (p .1)

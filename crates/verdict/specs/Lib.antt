@@ -1,0 +1,7 @@
+pub mod Reading
+pub mod Steps
+pub mod Rules
+pub mod Balance
+pub mod Statement
+pub mod Handed
+pub mod Worked

@@ -1,0 +1,145 @@
+-- The answers by document 01's table of numbers ("Verdicts"): the checks of each call, in the order of the numbers, with what each hands out
+-- where it fails. w is the count of bits of the sheet numbers. Assumes nothing.
+use Prim.Native.Nat.{ℕ}
+use mathlib.Core.Bool.{Bool, not, _&&_}
+use mathlib.Core.List.{List, [], _∷_}
+use lib.ListN.{length}
+use lib.Dec.{eqb}
+use lib.Ieee.{Float}
+use Rattle.exact.specs.Fraction.{Fraction, nat, leq}
+use Rattle.sheet.specs.Number.{value}
+use Rattle.doubles.specs.Double.{exactOf}
+use Rattle.doubles.specs.Handed.{doubleOf}
+use Rattle.doubles.specs.Range.{acceptedTemperature, acceptedDensity, acceptedTarget, acceptedTolerance, withinTolerance}
+use Rattle.term.specs.Sound.{soundLength, firstBroken}
+use Rattle.bracket.specs.declared.Bracket.{Bracket}
+use Rattle.equation.specs.Rules.{pressure, stiffness, gibbsGap, targetGap, pressureGap}
+use Rattle.verdict.specs.declared.Ends.{Ends}
+use Rattle.verdict.specs.declared.Refusal.{Refusal}
+use Rattle.verdict.specs.declared.Refusal.the-variants.{TableLength, BrokenTerm, Temperature, Density, Target, Tolerance, Sides, Ceiling}
+use Rattle.verdict.specs.declared.SheetAnswer.{SheetAnswer}
+use Rattle.verdict.specs.declared.SheetAnswer.the-variants as sheet
+use Rattle.verdict.specs.declared.Answer.{Answer}
+use Rattle.verdict.specs.declared.Answer.the-variants.{Accepted, Refused, PressureGap, GibbsGap, Stiffness}
+use Rattle.verdict.specs.Steps.{Step, firstFailing}
+
+-- each end handed out is the f64 of exactly its value
+unfoldable pub handedOut : Bracket → Ends
+handedOut b = record { lower = doubleOf (value (b .lo)); upper = doubleOf (value (b .hi)) }
+
+-- the upper end of pressure is at most 10^9
+unfoldable pub underCeiling : Bracket → Bool
+underCeiling b = leq (value (b .hi)) (nat 1000000000)
+
+-- the gap lies within its tolerance: lower end >= -tolerance, upper end <= tolerance
+unfoldable pub gapPasses : Bracket → Float → Bool
+gapPasses b tolerance = withinTolerance (value (b .lo)) (value (b .hi)) (exactOf tolerance)
+
+-- the lower end is above 0
+unfoldable pub pushesBack : Bracket → Bool
+pushesBack b = not (leq (value (b .lo)) (nat 0))
+
+-- liquid above the critical density, vapour below it
+unfoldable pub onSides : Float → Float → Bool
+onSides liquid vapour = not (leq (exactOf liquid) (nat 322)) && not (leq (nat 322) (exactOf vapour))
+
+-- 1 and 2, before the other checks
+abbrev pub tableSteps : {A : Type 0} → (Refusal → A) → List ℕ → List (Step A) → List (Step A)
+tableSteps refused table rest =
+    record { passes = soundLength (length table); otherwise = refused TableLength }
+    ∷ record { passes = eqb (firstBroken table) 0; otherwise = refused (BrokenTerm (firstBroken table)) }
+    ∷ rest
+
+-- ---- the state sheet: 1 to 4 and 8
+
+-- 8, on the bracket of pressure
+abbrev pub stateWorked : Bracket → List (Step SheetAnswer)
+stateWorked p = record { passes = underCeiling p; otherwise = sheet.Refused Ceiling } ∷ []
+
+-- 3, 4, and what follows
+abbrev pub stateInputs : ℕ → List ℕ → (t rho : Float) → List (Step SheetAnswer)
+stateInputs w table t rho =
+    record { passes = acceptedTemperature t; otherwise = sheet.Refused Temperature }
+    ∷ record { passes = acceptedDensity rho; otherwise = sheet.Refused Density }
+    ∷ stateWorked (pressure w table (exactOf t) (exactOf rho))
+
+abbrev pub stateSteps : ℕ → List ℕ → (t rho : Float) → List (Step SheetAnswer)
+stateSteps w table t rho = tableSteps sheet.Refused table (stateInputs w table t rho)
+
+abbrev pub stateAccepted : ℕ → List ℕ → (t rho : Float) → SheetAnswer
+stateAccepted w table t rho =
+    sheet.Answered (handedOut (pressure w table (exactOf t) (exactOf rho))) (handedOut (stiffness w table (exactOf t) (exactOf rho)))
+
+unfoldable pub stateAnswer : ℕ → List ℕ → (t rho : Float) → SheetAnswer
+stateAnswer w table t rho = firstFailing (stateSteps w table t rho) (stateAccepted w table t rho)
+
+-- ---- the density check: all but 7, 10 and 12
+
+-- 8, 9 and 11, on the brackets of pressure, of pressure less target, and of stiffness
+abbrev pub densityWorked : (p gap s : Bracket) → (tolerance : Float) → List (Step Answer)
+densityWorked p gap s tolerance =
+    record { passes = underCeiling p; otherwise = Refused Ceiling }
+    ∷ record { passes = gapPasses gap tolerance; otherwise = PressureGap (handedOut gap) }
+    ∷ record { passes = pushesBack s; otherwise = Stiffness (handedOut s) }
+    ∷ []
+
+-- 3 to 6, and what follows
+abbrev pub densityInputs : ℕ → List ℕ → (t rho target tolerance : Float) → List (Step Answer)
+densityInputs w table t rho target tolerance =
+    record { passes = acceptedTemperature t; otherwise = Refused Temperature }
+    ∷ record { passes = acceptedDensity rho; otherwise = Refused Density }
+    ∷ record { passes = acceptedTarget target; otherwise = Refused Target }
+    ∷ record { passes = acceptedTolerance tolerance; otherwise = Refused Tolerance }
+    ∷ densityWorked (pressure w table (exactOf t) (exactOf rho)) (targetGap w table (exactOf t) (exactOf rho) (exactOf target))
+    (stiffness w table (exactOf t) (exactOf rho)) tolerance
+
+abbrev pub densitySteps : ℕ → List ℕ → (t rho target tolerance : Float) → List (Step Answer)
+densitySteps w table t rho target tolerance = tableSteps Refused table (densityInputs w table t rho target tolerance)
+
+unfoldable pub densityAnswer : ℕ → List ℕ → (t rho target tolerance : Float) → Answer
+densityAnswer w table t rho target tolerance =
+    firstFailing (densitySteps w table t rho target tolerance) (Accepted (handedOut (pressure w table (exactOf t) (exactOf rho))))
+
+-- ---- the pair check: all but 5 and 12
+
+-- 10 and 11, on the brackets of the Gibbs gap and of the two stiffnesses, the liquid's first
+abbrev pub balanceWorked : (gibbs l v : Bracket) → (gibbsTolerance : Float) → List (Step Answer)
+balanceWorked gibbs l v gibbsTolerance =
+    record { passes = gapPasses gibbs gibbsTolerance; otherwise = GibbsGap (handedOut gibbs) }
+    ∷ record { passes = pushesBack l; otherwise = Stiffness (handedOut l) }
+    ∷ record { passes = pushesBack v; otherwise = Stiffness (handedOut v) }
+    ∷ []
+
+-- 8 and 9, on the brackets of the two pressures and of their gap, and what follows
+abbrev pub pairWorked : (p q gap : Bracket) → (pressureTolerance : Float) → List (Step Answer) → List (Step Answer)
+pairWorked p q gap pressureTolerance rest =
+    record { passes = underCeiling p && underCeiling q; otherwise = Refused Ceiling }
+    ∷ record { passes = gapPasses gap pressureTolerance; otherwise = PressureGap (handedOut gap) }
+    ∷ rest
+
+-- the same on the brackets that the rules of the equation give
+abbrev pub pairRest : ℕ → List ℕ → (t liquid vapour pressureTolerance gibbsTolerance : Float) → List (Step Answer)
+pairRest w table t liquid vapour pressureTolerance gibbsTolerance =
+    let T = exactOf t in
+    let l = exactOf liquid in
+    let v = exactOf vapour in
+    pairWorked (pressure w table T l) (pressure w table T v) (pressureGap w table T l v) pressureTolerance
+    (balanceWorked (gibbsGap w table T l v) (stiffness w table T l) (stiffness w table T v) gibbsTolerance)
+
+-- 3, 4, 6, 7, and what follows
+abbrev pub pairInputs : ℕ → List ℕ → (t liquid vapour pressureTolerance gibbsTolerance : Float) → List (Step Answer)
+pairInputs w table t liquid vapour pressureTolerance gibbsTolerance =
+    record { passes = acceptedTemperature t; otherwise = Refused Temperature }
+    ∷ record { passes = acceptedDensity liquid && acceptedDensity vapour; otherwise = Refused Density }
+    ∷ record { passes = acceptedTolerance pressureTolerance && acceptedTolerance gibbsTolerance; otherwise = Refused Tolerance }
+    ∷ record { passes = onSides liquid vapour; otherwise = Refused Sides }
+    ∷ pairRest w table t liquid vapour pressureTolerance gibbsTolerance
+
+abbrev pub pairSteps : ℕ → List ℕ → (t liquid vapour pressureTolerance gibbsTolerance : Float) → List (Step Answer)
+pairSteps w table t liquid vapour pressureTolerance gibbsTolerance =
+    tableSteps Refused table (pairInputs w table t liquid vapour pressureTolerance gibbsTolerance)
+
+unfoldable pub pairAnswer : ℕ → List ℕ → (t liquid vapour pressureTolerance gibbsTolerance : Float) → Answer
+pairAnswer w table t liquid vapour pressureTolerance gibbsTolerance =
+    firstFailing (pairSteps w table t liquid vapour pressureTolerance gibbsTolerance)
+    (Accepted (handedOut (pressure w table (exactOf t) (exactOf vapour))))

@@ -1,0 +1,78 @@
+// The density check: all numbers but 7, 10 and 12.
+use crate::Answer;
+use crate::Refusal;
+use crate::State;
+use crate::handed::gap_passes;
+use crate::handed::handed_out;
+use crate::handed::pushes_back;
+use crate::handed::under_ceiling;
+use crate::phases::phase_of;
+use bracket::Bracket;
+use term::Table;
+ghost use mathlib.Core.Path.{_≡_};
+ghost use mathlib.Core.Bool.{true};
+ghost use lib.Dec.{T};
+ghost use lib.Ieee.Scale.{finite};
+ghost use Rattle.doubles.specs.Double.{exactOf};
+ghost use Rattle.term.specs.Sound.{soundTable};
+ghost use Rattle.equation.specs.Rules.{pressure};
+ghost use Rattle.verdict.specs.declared.Answer.the-variants.{Accepted};
+ghost use Rattle.verdict.specs.Reading.{Finite};
+ghost use Rattle.verdict.specs.Steps.{firstFailing};
+ghost use Rattle.verdict.specs.Rules.{handedOut, densityWorked, densityInputs, densityAnswer};
+ghost use Rattle.verdict.specs.Handed.{Handy};
+
+// 8, 9 and 11, by the brackets of pressure, of pressure less target, and of stiffness.
+fn worked(p: Bracket, gap: Bracket, s: Bracket, tolerance: f64) -> Answer
+    requires { ⌜ (Handy p × Handy gap) × (Handy s × T (finite tolerance)) ⌝ }
+    ensures { λ r. ⌜ r ≡ firstFailing (densityWorked p gap s tolerance) (Accepted (handedOut p)) ⌝ }
+    ensures { λ r. ⌜ Finite r ⌝ }
+{
+    if !under_ceiling(p) {
+        return Answer::Refused(Refusal::Ceiling);
+    }
+    if !gap_passes(gap, tolerance) {
+        return Answer::PressureGap(handed_out(gap));
+    }
+    if !pushes_back(s) {
+        return Answer::Stiffness(handed_out(s));
+    }
+    Answer::Accepted(handed_out(p))
+}
+
+// 3 to 6, and what follows.
+fn screened(table: &[u8], t: f64, rho: f64, target: f64, tolerance: f64) -> Answer
+    requires { ⌜ soundTable (now table) ≡ true ⌝ }
+    ensures { λ r. ⌜ r ≡ firstFailing (densityInputs 32 (now (table .entry)) t rho target tolerance) (Accepted (handedOut (pressure 32 (now (table .entry)) (exactOf t) (exactOf rho)))) ⌝ }
+    ensures { λ r. ⌜ Finite r ⌝ }
+{
+    if !doubles::range::accepts_temperature(t) {
+        return Answer::Refused(Refusal::Temperature);
+    }
+    if !doubles::range::accepts_density(rho) {
+        return Answer::Refused(Refusal::Density);
+    }
+    if !doubles::range::accepts_target(target) {
+        return Answer::Refused(Refusal::Target);
+    }
+    if !doubles::range::accepts_tolerance(tolerance) {
+        return Answer::Refused(Refusal::Tolerance);
+    }
+    let a = phase_of(table, t, rho);
+    let gap = equation::target_gap_of(a.pressure, target);
+    worked(a.pressure, gap, a.stiffness, tolerance)
+}
+
+pub fn density_check(table: &[u8], state: State, target: f64, tolerance: f64) -> Answer
+    ensures { λ r. ⌜ r ≡ densityAnswer 32 (now (table .entry)) (state .temperature) (state .density) target tolerance ⌝ }
+    ensures { λ r. ⌜ Finite r ⌝ }
+    ensures { λ r. ⌜ now (table .exit) ≡ now (table .entry) ⌝ }
+{
+    let t = state.temperature;
+    let rho = state.density;
+    match term::check_table(table) {
+        Table::Length => Answer::Refused(Refusal::TableLength),
+        Table::Broken(place) => Answer::Refused(Refusal::BrokenTerm(place)),
+        Table::Sound(_) => screened(table, t, rho, target, tolerance),
+    }
+}

@@ -1,0 +1,193 @@
+// The pair check: all numbers but 5 and 12. Liquid and vapour have one temperature.
+use crate::Answer;
+use crate::Refusal;
+use crate::State;
+use crate::handed::gap_passes;
+use crate::handed::handed_out;
+use crate::handed::pushes_back;
+use crate::handed::under_ceiling;
+use crate::phases::phase_of;
+use bracket::Bracket;
+use term::Table;
+ghost use mathlib.Core.Path.{_≡_};
+ghost use mathlib.Core.Bool.{true, _&&_};
+ghost use lib.Dec.{T};
+ghost use lib.Ieee.Scale.{finite};
+ghost use Rattle.doubles.specs.Double.{exactOf};
+ghost use Rattle.doubles.specs.Range.{acceptedDensity, acceptedTolerance};
+ghost use Rattle.term.specs.Sound.{soundTable};
+ghost use Rattle.equation.specs.Rules.{pressure};
+ghost use Rattle.verdict.specs.declared.Answer.the-variants.{Accepted};
+ghost use Rattle.verdict.specs.Reading.{Finite};
+ghost use Rattle.verdict.specs.Steps.{firstFailing};
+ghost use Rattle.verdict.specs.Rules.{handedOut, underCeiling, onSides, balanceWorked, pairWorked, pairRest, pairInputs, pairAnswer};
+ghost use Rattle.verdict.specs.Handed.{Handy, WorkablePair};
+
+fn accepts_densities(liquid: f64, vapour: f64) -> bool
+    ensures { λ r. ⌜ r ≡ (acceptedDensity liquid && acceptedDensity vapour) ⌝ }
+{
+    if doubles::range::accepts_density(liquid) {
+        doubles::range::accepts_density(vapour)
+    } else {
+        false
+    }
+}
+
+fn accepts_tolerances(pressure: f64, gibbs: f64) -> bool
+    ensures { λ r. ⌜ r ≡ (acceptedTolerance pressure && acceptedTolerance gibbs) ⌝ }
+{
+    if doubles::range::accepts_tolerance(pressure) {
+        doubles::range::accepts_tolerance(gibbs)
+    } else {
+        false
+    }
+}
+
+fn on_sides(liquid: f64, vapour: f64) -> bool
+    requires { ⌜ T (finite liquid) × T (finite vapour) ⌝ }
+    ensures { λ r. ⌜ r ≡ onSides liquid vapour ⌝ }
+{
+    if doubles::range::above_critical(liquid) {
+        doubles::range::below_critical(vapour)
+    } else {
+        false
+    }
+}
+
+fn both_under_ceiling(p: Bracket, q: Bracket) -> bool
+    requires { ⌜ Handy p × Handy q ⌝ }
+    ensures { λ r. ⌜ r ≡ (underCeiling p && underCeiling q) ⌝ }
+{
+    if under_ceiling(p) {
+        under_ceiling(q)
+    } else {
+        false
+    }
+}
+
+// 10 and 11, by the brackets of the Gibbs gap and of the two stiffnesses; accepted with the vapour's pressure q.
+fn balanced(gibbs: Bracket, l: Bracket, v: Bracket, gibbs_tolerance: f64, q: Bracket) -> Answer
+    requires { ⌜ (Handy gibbs × Handy l) × (Handy v × Handy q) ⌝ }
+    requires { ⌜ T (finite «gibbs_tolerance») ⌝ }
+    ensures { λ r. ⌜ r ≡ firstFailing (balanceWorked gibbs l v «gibbs_tolerance») (Accepted (handedOut q)) ⌝ }
+    ensures { λ r. ⌜ Finite r ⌝ }
+{
+    if !gap_passes(gibbs, gibbs_tolerance) {
+        return Answer::GibbsGap(handed_out(gibbs));
+    }
+    if !pushes_back(l) {
+        return Answer::Stiffness(handed_out(l));
+    }
+    if !pushes_back(v) {
+        return Answer::Stiffness(handed_out(v));
+    }
+    Answer::Accepted(handed_out(q))
+}
+
+// 8 and 9, by the brackets of the two pressures and of their gap, and what follows.
+fn judged(
+    p: Bracket,
+    q: Bracket,
+    gap: Bracket,
+    gibbs: Bracket,
+    l: Bracket,
+    v: Bracket,
+    pressure_tolerance: f64,
+    gibbs_tolerance: f64,
+) -> Answer
+    requires { ⌜ (((Handy p × Handy q) × (Handy gap × Handy gibbs)) × (Handy l × Handy v)) × (T (finite «pressure_tolerance») × T (finite «gibbs_tolerance»)) ⌝ }
+    ensures { λ r. ⌜ r ≡ firstFailing (pairWorked p q gap «pressure_tolerance» (balanceWorked gibbs l v «gibbs_tolerance»)) (Accepted (handedOut q)) ⌝ }
+    ensures { λ r. ⌜ Finite r ⌝ }
+{
+    if !both_under_ceiling(p, q) {
+        return Answer::Refused(Refusal::Ceiling);
+    }
+    if !gap_passes(gap, pressure_tolerance) {
+        return Answer::PressureGap(handed_out(gap));
+    }
+    balanced(gibbs, l, v, gibbs_tolerance, q)
+}
+
+// Each phase is worked out once, in one pass over the table.
+fn worked(
+    table: &[u8],
+    t: f64,
+    liquid: f64,
+    vapour: f64,
+    pressure_tolerance: f64,
+    gibbs_tolerance: f64,
+) -> Answer
+    requires { ⌜ WorkablePair (now table) t liquid vapour «pressure_tolerance» «gibbs_tolerance» ⌝ }
+    ensures { λ r. ⌜ r ≡ firstFailing (pairRest 32 (now (table .entry)) t liquid vapour «pressure_tolerance» «gibbs_tolerance») (Accepted (handedOut (pressure 32 (now (table .entry)) (exactOf t) (exactOf vapour)))) ⌝ }
+    ensures { λ r. ⌜ Finite r ⌝ }
+{
+    let l = phase_of(table, t, liquid);
+    let v = phase_of(table, t, vapour);
+    let gap = equation::pressure_gap_of(l.pressure, v.pressure);
+    let gibbs = equation::gibbs_gap_of(t, liquid, vapour, l.sums, v.sums);
+    judged(
+        l.pressure,
+        v.pressure,
+        gap,
+        gibbs,
+        l.stiffness,
+        v.stiffness,
+        pressure_tolerance,
+        gibbs_tolerance,
+    )
+}
+
+// 3, 4, 6 and 7, and what follows.
+fn screened(
+    table: &[u8],
+    t: f64,
+    liquid: f64,
+    vapour: f64,
+    pressure_tolerance: f64,
+    gibbs_tolerance: f64,
+) -> Answer
+    requires { ⌜ soundTable (now table) ≡ true ⌝ }
+    ensures { λ r. ⌜ r ≡ firstFailing (pairInputs 32 (now (table .entry)) t liquid vapour «pressure_tolerance» «gibbs_tolerance») (Accepted (handedOut (pressure 32 (now (table .entry)) (exactOf t) (exactOf vapour)))) ⌝ }
+    ensures { λ r. ⌜ Finite r ⌝ }
+{
+    if !doubles::range::accepts_temperature(t) {
+        return Answer::Refused(Refusal::Temperature);
+    }
+    if !accepts_densities(liquid, vapour) {
+        return Answer::Refused(Refusal::Density);
+    }
+    if !accepts_tolerances(pressure_tolerance, gibbs_tolerance) {
+        return Answer::Refused(Refusal::Tolerance);
+    }
+    if !on_sides(liquid, vapour) {
+        return Answer::Refused(Refusal::Sides);
+    }
+    worked(
+        table,
+        t,
+        liquid,
+        vapour,
+        pressure_tolerance,
+        gibbs_tolerance,
+    )
+}
+
+pub fn pair_check(
+    table: &[u8],
+    liquid: State,
+    vapour: f64,
+    pressure_tolerance: f64,
+    gibbs_tolerance: f64,
+) -> Answer
+    ensures { λ r. ⌜ r ≡ pairAnswer 32 (now (table .entry)) (liquid .temperature) (liquid .density) vapour «pressure_tolerance» «gibbs_tolerance» ⌝ }
+    ensures { λ r. ⌜ Finite r ⌝ }
+    ensures { λ r. ⌜ now (table .exit) ≡ now (table .entry) ⌝ }
+{
+    let t = liquid.temperature;
+    let rho = liquid.density;
+    match term::check_table(table) {
+        Table::Length => Answer::Refused(Refusal::TableLength),
+        Table::Broken(place) => Answer::Refused(Refusal::BrokenTerm(place)),
+        Table::Sound(_) => screened(table, t, rho, vapour, pressure_tolerance, gibbs_tolerance),
+    }
+}

@@ -1,0 +1,27 @@
+// One phase, worked out in a single pass over the table: its sums, its pressure and its stiffness.
+use bracket::Bracket;
+use equation::Sums;
+ghost use mathlib.Core.Path.{_≡_};
+ghost use Rattle.doubles.specs.Double.{exactOf};
+ghost use Rattle.verdict.specs.Worked.{phaseOf};
+ghost use Rattle.verdict.specs.Handed.{Workable};
+
+pub struct Phase {
+    pub sums: Sums,
+    pub pressure: Bracket,
+    pub stiffness: Bracket,
+}
+
+pub fn phase_of(table: &[u8], t: f64, rho: f64) -> Phase
+    requires { ⌜ Workable (now table) t rho ⌝ }
+    ensures { λ r. ⌜ r ≡ phaseOf 32 (now (table .entry)) (exactOf t) (exactOf rho) ⌝ }
+{
+    let sums = equation::sums_of(table, t, rho);
+    let pressure = equation::pressure_of(t, rho, sums);
+    let stiffness = equation::stiffness_of(t, sums);
+    Phase {
+        sums,
+        pressure,
+        stiffness,
+    }
+}

@@ -1,0 +1,62 @@
+// The state sheet: the checks 1 to 4 and 8, then the brackets of pressure and of stiffness.
+use crate::Refusal;
+use crate::SheetAnswer;
+use crate::State;
+use crate::handed::handed_out;
+use crate::handed::under_ceiling;
+use crate::phases::phase_of;
+use bracket::Bracket;
+use term::Table;
+ghost use mathlib.Core.Path.{_≡_};
+ghost use mathlib.Core.Bool.{true};
+ghost use Rattle.term.specs.Sound.{soundTable};
+ghost use Rattle.verdict.specs.declared.SheetAnswer.the-variants.{Answered};
+ghost use Rattle.verdict.specs.Reading.{SheetFinite};
+ghost use Rattle.verdict.specs.Steps.{firstFailing};
+ghost use Rattle.verdict.specs.Rules.{handedOut, stateWorked, stateInputs, stateAccepted, stateAnswer};
+ghost use Rattle.verdict.specs.Handed.{Handy};
+
+// 8, then the ends.
+fn worked(pressure: Bracket, stiffness: Bracket) -> SheetAnswer
+    requires { ⌜ Handy pressure × Handy stiffness ⌝ }
+    ensures { λ r. ⌜ r ≡ firstFailing (stateWorked pressure) (Answered (handedOut pressure) (handedOut stiffness)) ⌝ }
+    ensures { λ r. ⌜ SheetFinite r ⌝ }
+{
+    if under_ceiling(pressure) {
+        let p = handed_out(pressure);
+        let s = handed_out(stiffness);
+        SheetAnswer::Answered(p, s)
+    } else {
+        SheetAnswer::Refused(Refusal::Ceiling)
+    }
+}
+
+// 3 and 4, and what follows.
+fn screened(table: &[u8], t: f64, rho: f64) -> SheetAnswer
+    requires { ⌜ soundTable (now table) ≡ true ⌝ }
+    ensures { λ r. ⌜ r ≡ firstFailing (stateInputs 32 (now (table .entry)) t rho) (stateAccepted 32 (now (table .entry)) t rho) ⌝ }
+    ensures { λ r. ⌜ SheetFinite r ⌝ }
+{
+    if !doubles::range::accepts_temperature(t) {
+        return SheetAnswer::Refused(Refusal::Temperature);
+    }
+    if !doubles::range::accepts_density(rho) {
+        return SheetAnswer::Refused(Refusal::Density);
+    }
+    let a = phase_of(table, t, rho);
+    worked(a.pressure, a.stiffness)
+}
+
+pub fn state_sheet(table: &[u8], state: State) -> SheetAnswer
+    ensures { λ r. ⌜ r ≡ stateAnswer 32 (now (table .entry)) (state .temperature) (state .density) ⌝ }
+    ensures { λ r. ⌜ SheetFinite r ⌝ }
+    ensures { λ r. ⌜ now (table .exit) ≡ now (table .entry) ⌝ }
+{
+    let t = state.temperature;
+    let rho = state.density;
+    match term::check_table(table) {
+        Table::Length => SheetAnswer::Refused(Refusal::TableLength),
+        Table::Broken(place) => SheetAnswer::Refused(Refusal::BrokenTerm(place)),
+        Table::Sound(_) => screened(table, t, rho),
+    }
+}

@@ -1,0 +1,114 @@
+/* A small panel on the water bench: reads a table and proposals, and says of each plug in plain words what the pair
+ * check answers.
+ *
+ *   panel TERMS PROPOSALS
+ *
+ * Built by 'rt staticlib panel' and, on x86-64, 'gcc -Iinclude -o panel examples/panel.c target/staticlib/libpanel.a';
+ * 'tests/c examples/panel.c TERMS PROPOSALS' builds and runs it on either kind of machine.
+ *
+ * TERMS is a file of packed terms; PROPOSALS has five doubles for each plug, most significant byte first: temperature,
+ * liquid, vapour, pressure tolerance, Gibbs tolerance, as the bench program takes them.  Ends with status 1 where a file
+ * can't be read. */
+#include <stdio.h>
+
+#include "waterbench.h"
+
+enum { LONGEST_TABLE = 576, NUMBERS = 5, BYTES = 8 * NUMBERS };
+
+static const char *const reasons[] = {
+    "accepted",
+    "the table of terms has a length that no table has",
+    "a term of the table breaks a rule",
+    "the temperature is not between 273 and 1273 K",
+    "a density is not between 1/1024 and 1288 kg/m3",
+    "the target pressure is not between 0 and 10^9 Pa",
+    "a tolerance is not between 0 and 10^6",
+    "the liquid is not above 322 kg/m3, or the vapour not below",
+    "a pressure is above 10^9 Pa",
+    "the two pressures are too far apart",
+    "the two Gibbs energies are too far apart",
+    "a phase does not push back when it is squeezed",
+};
+
+struct plug {
+    double temperature, liquid, vapour, pressure_tolerance, gibbs_tolerance;
+};
+
+static double read_double(const uint8_t *bytes)
+{
+    uint64_t bits = 0;
+    for (int i = 0; i < 8; i++)
+        bits = bits << 8 | bytes[i];
+    return wb_double(bits);
+}
+
+static uint64_t ask(const uint8_t *table, size_t length, struct plug p, uint64_t choice)
+{
+    return wb_pair(table, length, p.temperature, p.liquid, p.vapour, p.pressure_tolerance, p.gibbs_tolerance, choice);
+}
+
+/* What the answer's ends are, for the numbers that have ends. */
+static void say_ends(uint64_t number, double lower, double upper)
+{
+    switch (number) {
+    case WB_PRESSURE_GAP:
+        printf(": the gap is between %.6g and %.6g Pa", lower, upper);
+        break;
+    case WB_GIBBS_GAP:
+        printf(": the gap is between %.6g and %.6g J/kg", lower, upper);
+        break;
+    case WB_STIFFNESS:
+        printf(": its stiffness is between %.6g and %.6g Pa m3/kg", lower, upper);
+        break;
+    }
+}
+
+static void say(unsigned long count, const uint8_t *table, size_t length, struct plug p)
+{
+    uint64_t number = ask(table, length, p, WB_NUMBER);
+    uint64_t place = ask(table, length, p, WB_PLACE);
+    double lower = wb_double(ask(table, length, p, WB_LOWER));
+    double upper = wb_double(ask(table, length, p, WB_UPPER));
+
+    printf("plug %lu (%.6g K, %.8g and %.8g kg/m3): ", count, p.temperature, p.liquid, p.vapour);
+    if (number == WB_ACCEPTED) {
+        printf("accepted, with the vapour pressure between %.10g and %.10g Pa\n", lower, upper);
+        return;
+    }
+    printf("refused, %u, %s", (unsigned)number, reasons[number]);
+    if (place != 0)
+        printf(" (term %lu)", (unsigned long)place);
+    say_ends(number, lower, upper);
+    printf("\n");
+}
+
+int main(int count, char **words)
+{
+    uint8_t table[LONGEST_TABLE + 1]; /* one byte more, so that a longer file is seen to be longer */
+    uint8_t bytes[BYTES];
+    size_t length, got;
+    FILE *terms = count == 3 ? fopen(words[1], "rb") : NULL;
+    FILE *proposals = count == 3 ? fopen(words[2], "rb") : NULL;
+
+    if (terms == NULL || proposals == NULL) {
+        fprintf(stderr, "usage: panel TERMS PROPOSALS, two files that can be read\n");
+        return 1;
+    }
+    length = fread(table, 1, sizeof table, terms);
+    for (unsigned long plug = 1; (got = fread(bytes, 1, BYTES, proposals)) != 0; plug++) {
+        struct plug p;
+        if (got < BYTES) {
+            printf("plug %lu: refused, 12, the proposal is cut short\n", plug);
+            break;
+        }
+        p.temperature = read_double(bytes);
+        p.liquid = read_double(bytes + 8);
+        p.vapour = read_double(bytes + 16);
+        p.pressure_tolerance = read_double(bytes + 24);
+        p.gibbs_tolerance = read_double(bytes + 32);
+        say(plug, table, length, p);
+    }
+    fclose(terms);
+    fclose(proposals);
+    return 0;
+}

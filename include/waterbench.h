@@ -1,0 +1,76 @@
+/* The water bench: three calls that check what a search for water's saturation pair proposes.
+ *
+ * Lend a table of packed terms (nine bytes a term, 9 to 576 bytes) and give the numbers as doubles.  Any bytes and any
+ * doubles are answered, NaN and infinities too; nothing has to be checked before a call, and no lent byte is written.
+ *
+ * A call hands back ONE value of the answer, by a choice:
+ *   WB_NUMBER  0 is accepted, anything else is a refusal's number (below)
+ *   WB_PLACE   for a broken term its place in the table, counted from 1; else 0
+ *   WB_LOWER, WB_UPPER            the two ends, as the bits of a double: wb_double turns them into one
+ *   WB_STIFFNESS_LOWER, .._UPPER  the state sheet's last two ends; the two checks have none
+ * Any other choice, or an end that the answer does not have, gives 0.
+ *
+ * Link with libpanel.a (x86-64).  The same call with the same input always gives the same value. */
+#ifndef WATERBENCH_H
+#define WATERBENCH_H
+
+#include <stddef.h>
+#include <stdint.h>
+#include <string.h>
+
+enum wb_choice {
+    WB_NUMBER = 0,
+    WB_PLACE = 1,
+    WB_LOWER = 2,
+    WB_UPPER = 3,
+    WB_STIFFNESS_LOWER = 4,
+    WB_STIFFNESS_UPPER = 5
+};
+
+enum wb_number {
+    WB_ACCEPTED = 0,
+    WB_TABLE_LENGTH = 1,    /* the table is not 9 to 576 bytes in nines */
+    WB_BROKEN_TERM = 2,     /* a term breaks a rule; WB_PLACE says which */
+    WB_TEMPERATURE = 3,     /* T is not 273 to 1273 K */
+    WB_DENSITY = 4,         /* a density is not 1/1024 to 1288 kg/m3 */
+    WB_TARGET = 5,          /* the target pressure is not 0 to 10^9 Pa */
+    WB_TOLERANCE = 6,       /* a tolerance is not 0 to 10^6 */
+    WB_SIDES = 7,           /* the liquid is not above 322 kg/m3, or the vapour not below */
+    WB_CEILING = 8,         /* a pressure's upper end is above 10^9 Pa */
+    WB_PRESSURE_GAP = 9,    /* the pressures are too far apart; the ends are the gap's */
+    WB_GIBBS_GAP = 10,      /* the Gibbs energies are too far apart; the ends are the gap's */
+    WB_STIFFNESS = 11       /* a phase does not push back when squeezed; the ends are its stiffness */
+};
+
+#ifdef __cplusplus
+extern "C" {
+#endif
+
+/* The state sheet: what the equation gives at a temperature (K) and a density (kg/m3).
+ * The ends are the pressure's (Pa), then those of the stiffness, pressure by density at fixed temperature
+ * (Pa m3/kg); a refused sheet has zeros.  Refusals: 1 to 4 and 8. */
+uint64_t wb_state(const uint8_t *table, size_t table_bytes, double temperature, double density, uint64_t choice);
+
+/* The density check: has this density, at this temperature, the target pressure (Pa) to within the tolerance (Pa), and
+ * does it push back?  Accepted: the ends are the pressure's.  Refusals: all but 7 and 10. */
+uint64_t wb_density(const uint8_t *table, size_t table_bytes, double temperature, double density, double target,
+                    double tolerance, uint64_t choice);
+
+/* The pair check: are these two densities a saturation pair at this temperature, to within a pressure tolerance (Pa)
+ * and a Gibbs tolerance (J/kg), and do both phases push back?  Accepted: the ends are the vapour's pressure.
+ * Refusals: all but 5. */
+uint64_t wb_pair(const uint8_t *table, size_t table_bytes, double temperature, double liquid, double vapour,
+                 double pressure_tolerance, double gibbs_tolerance, uint64_t choice);
+
+/* An end as a double. */
+static inline double wb_double(uint64_t bits)
+{
+    double value;
+    memcpy(&value, &bits, sizeof value);
+    return value;
+}
+
+#ifdef __cplusplus
+}
+#endif
+#endif

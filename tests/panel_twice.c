@@ -1,0 +1,116 @@
+/* Random calls of the C entries, each made twice: the two answers must be the same, and the lent bytes as before.
+ *
+ *   panel_twice CALLS DEEP [SEED]
+ *
+ * Every call has random bytes as its table and random bit patterns as its doubles.  Of every DEEP calls one is made to
+ * get as far as the equation: a sound table of one to three terms and numbers in their ranges; 0 makes none of these.
+ * Ends with a line 'N passed, M failed'. */
+#include <inttypes.h>
+#include <stdio.h>
+#include <stdlib.h>
+
+#include "waterbench.h"
+
+enum { LONGEST_TABLE = 600, NUMBERS = 5, TERM = 9 };
+
+static uint64_t state;
+
+/* splitmix64 */
+static uint64_t next(void)
+{
+    uint64_t z = state += 0x9e3779b97f4a7c15;
+    z = (z ^ z >> 30) * 0xbf58476d1ce4e5b9;
+    z = (z ^ z >> 27) * 0x94d049bb133111eb;
+    return z ^ z >> 31;
+}
+
+static double between(double low, double high)
+{
+    return low + (high - low) * ((double)(next() >> 11) / 9007199254740992.0);
+}
+
+struct call {
+    uint8_t table[LONGEST_TABLE];
+    size_t length;
+    double x[NUMBERS];
+    uint64_t function, choice;
+};
+
+static void any_call(struct call *c)
+{
+    /* one in four has a length that a table may have */
+    c->length = next() % 4 ? next() % (LONGEST_TABLE + 1) : TERM * (1 + next() % 64);
+    for (size_t i = 0; i < LONGEST_TABLE; i++)
+        c->table[i] = (uint8_t)next();
+    for (int i = 0; i < NUMBERS; i++)
+        c->x[i] = wb_double(next());
+    c->function = next() % 3;
+    c->choice = next() % 8 ? next() % 7 : next();
+}
+
+/* c 2 bits, d 4 from 1, t 5 up to 24, sign 1, magnitude 60 up to 10^17 */
+static void sound_term(uint8_t *bytes)
+{
+    uint64_t magnitude = 1 + next() % 100000000000000000;
+    unsigned head = (unsigned)(next() % 4) << 10 | (unsigned)(1 + next() % 15) << 6 | (unsigned)(next() % 25) << 1;
+    head |= (unsigned)(next() % 2);
+    bytes[0] = (uint8_t)(head >> 4);
+    bytes[1] = (uint8_t)(head << 4 | magnitude >> 56);
+    for (int i = 0; i < 7; i++)
+        bytes[2 + i] = (uint8_t)(magnitude >> (48 - 8 * i));
+}
+
+static void deep_call(struct call *c)
+{
+    any_call(c);
+    c->length = TERM * (1 + next() % 3);
+    for (size_t i = 0; i < c->length; i += TERM)
+        sound_term(c->table + i);
+    c->x[0] = between(273, 1273);
+    c->x[1] = between(322.5, 1288);
+    c->x[2] = c->function == 1 ? between(0, 1e9) : between(0.001, 321.5);
+    c->x[3] = between(0, 1e6);
+    c->x[4] = between(0, 1e6);
+}
+
+static uint64_t made(const struct call *c)
+{
+    const double *x = c->x;
+    switch (c->function) {
+    case 0:
+        return wb_state(c->table, c->length, x[0], x[1], c->choice);
+    case 1:
+        return wb_density(c->table, c->length, x[0], x[1], x[2], x[3], c->choice);
+    default:
+        return wb_pair(c->table, c->length, x[0], x[1], x[2], x[3], x[4], c->choice);
+    }
+}
+
+int main(int count, char **words)
+{
+    static struct call call, kept;
+    unsigned long calls = count > 2 ? strtoul(words[1], NULL, 10) : 0;
+    unsigned long deep = count > 2 ? strtoul(words[2], NULL, 10) : 0;
+    unsigned long passed = 0;
+
+    state = count > 3 ? strtoull(words[3], NULL, 10) : 1;
+    if (calls == 0) {
+        fprintf(stderr, "usage: panel_twice CALLS DEEP [SEED]\n");
+        return 1;
+    }
+    for (unsigned long i = 0; i < calls; i++) {
+        if (deep != 0 && i % deep == 0)
+            deep_call(&call);
+        else
+            any_call(&call);
+        memcpy(&kept, &call, sizeof call);
+        uint64_t first = made(&call);
+        uint64_t second = made(&call);
+        if (first == second && memcmp(&kept, &call, sizeof call) == 0)
+            passed++;
+        else
+            printf("call %lu: %016" PRIx64 ", then %016" PRIx64 "\n", i, first, second);
+    }
+    printf("%lu passed, %lu failed\n", passed, calls - passed);
+    return passed == calls ? 0 : 1;
+}
