@@ -5,4 +5,5 @@ pub mod HandedOut
 pub mod Ready
 pub mod Settled
 pub mod Demand1
+pub mod Demand2
 pub mod Demand3

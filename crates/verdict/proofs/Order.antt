@@ -3,7 +3,7 @@ use Prim.Native.Nat.{ℕ, zero, suc}
 use mathlib.Core.Path.{_≡_, refl, sym, _∙_, ap, subst}
 use mathlib.Core.Bool.{Bool, true, false, cond, not, _&&_}
 use mathlib.Core.List.{List, [], _∷_}
-use mathlib.Core.Logic.{_↔_}
+use mathlib.Core.Logic.{_↔_, _⊎_, inl, inr, ⊎-elim}
 use lib.Dec.{eqb, T, T-not, eqb→eq}
 use borrow.Author.Tests.{eq-eqb}
 use Rattle.verdict.specs.Steps.{Step, firstFailing, AllPass, FailsAt}
@@ -112,3 +112,27 @@ module _ {A : Type 0} (number : A → ℕ) where
         λ h. let b = behind n step rest last (parts .0) h in (b .0, later .0 (b .1)),
         λ f. ap number (on-pass step rest last (f .0)) ∙ later .1 (f .1),
       )
+
+  -- of the steps' answers and the last word, those of step k and of the next alone have the number n
+  abbrev pub onlyTwice : ℕ → ℕ → List (Step A) → A → Bool
+  onlyTwice n k [] last = false
+  onlyTwice n zero (step ∷ rest) last = eqb (number (step .otherwise)) n && onlyAt n 0 rest last
+  onlyTwice n (suc k) (step ∷ rest) last = not (eqb (number (step .otherwise)) n) && onlyTwice n k rest last
+
+  -- a number that two steps in a row give is answered by one of them
+  pub either : (n k : ℕ) (steps : List (Step A)) (last : A) → T (onlyTwice n k steps last)
+      → number (firstFailing steps last) ≡ n → FailsAt k steps ⊎ FailsAt (suc k) steps
+  either n k [] last o e = absurd o
+  either n zero (step ∷ rest) last o e = go (step .passes) refl
+    where
+      go : (b : Bool) → step .passes ≡ b → (step .passes ≡ false) ⊎ FailsAt 1 (step ∷ rest)
+      go false p = inl p
+      go true p =
+          inr (
+            p,
+            exactly n 0 rest last (both (eqb (number (step .otherwise)) n) (onlyAt n 0 rest last) o .1) .0 (sym (ap number (on-pass step rest last p)) ∙ e),
+          )
+  either n (suc k) (step ∷ rest) last o e =
+      let parts = both (not (eqb (number (step .otherwise)) n)) (onlyTwice n k rest last) o in
+      let b = behind n step rest last (parts .0) e in
+      ⊎-elim (λ f. inl (b .0, f)) (λ f. inr (b .0, f)) (either n k rest last (parts .1) (b .1))
