@@ -1,5 +1,6 @@
--- The rules as the code follows them: by whether c is 0, and the sums from one term to the next. Assumes nothing.
-use mathlib.Core.Path.{_≡_, refl}
+-- The rules as the code follows them: by whether c is 0, the sums from one term to the next, and
+-- the readings of a table by its sums. Assumes nothing.
+use mathlib.Core.Path.{_≡_, refl, ap, ap₂, _∙_}
 use mathlib.Core.List.{List}
 use Prim.Native.Nat.{ℕ, zero, suc, _+_, _*_, _<_}
 use native.Mathlib.Numerals.{add-one}
@@ -10,7 +11,8 @@ use Rattle.bracket.specs.declared.Bracket.{Bracket}
 use Rattle.bracket.specs.Span.{whole}
 use Rattle.bracket.specs.Rules.{ends, given, minus, times}
 use Rattle.series.specs.Exponential.{expneg}
-use Rattle.equation.specs.Rules.{delta, tau, factorE, termW, factorW, factorS2, addends, plusEach, noSums, sumsFirst, sums}
+use Rattle.equation.specs.declared.Sums.{Sums}
+use Rattle.equation.specs.Rules.{delta, tau, factorE, termW, factorW, factorS2, addends, plusEach, noSums, sumsFirst, sums, pressureOf, stiffnessOf, gibbsGapOf, pressure, stiffness, gibbsGap, targetGap, pressureGap}
 
 module _ (w c : ℕ) (g : Bracket) where
   pub factorE-none : c ≡ 0 → given w (nat 1) ≡ factorE w c g
@@ -52,3 +54,29 @@ sumsFirst-more w table a b n = rw add-one
 pub sums-is : (w : ℕ) (table : List ℕ) (T rho : Fraction) → sumsFirst w table (delta w rho) (tau w T) (countTerms table) ≡ sums w table T rho
 unfolding sums
 sums-is w table T rho = refl
+
+-- ---- the readings of a table by its sums
+
+module _ (w : ℕ) (table : List ℕ) (T : Fraction) where
+  pub pressure-is : (rho : Fraction) {s : Sums} {r : Bracket} → s ≡ sums w table T rho → r ≡ pressureOf w T rho s → r ≡ pressure w table T rho
+  unfolding pressure
+  pressure-is rho p e = e ∙ ap (pressureOf w T rho) p
+
+  pub stiffness-is : (rho : Fraction) {s : Sums} {r : Bracket} → s ≡ sums w table T rho → r ≡ stiffnessOf w T s → r ≡ stiffness w table T rho
+  unfolding stiffness
+  stiffness-is rho p e = e ∙ ap (stiffnessOf w T) p
+
+  pub gibbsGap-is : (liquid vapour : Fraction) {x y : Sums} {r : Bracket} → x ≡ sums w table T liquid → y ≡ sums w table T vapour
+      → r ≡ gibbsGapOf w T liquid vapour x y → r ≡ gibbsGap w table T liquid vapour
+  unfolding gibbsGap
+  gibbsGap-is liquid vapour p q e = e ∙ ap₂ (gibbsGapOf w T liquid vapour) p q
+
+  pub pressureGap-is : (liquid vapour : Fraction) {p q r : Bracket} → p ≡ pressure w table T liquid → q ≡ pressure w table T vapour
+      → r ≡ minus w (ends p) (ends q) → r ≡ pressureGap w table T liquid vapour
+  unfolding pressureGap
+  pressureGap-is liquid vapour i j e = e ∙ ap₂ (λ (x y : Bracket). minus w (ends x) (ends y)) i j
+
+  pub targetGap-is : (rho target : Fraction) {p r : Bracket} → p ≡ pressure w table T rho → r ≡ minus w (ends p) (ends (given w target))
+      → r ≡ targetGap w table T rho target
+  unfolding targetGap
+  targetGap-is rho target i e = e ∙ ap (λ (x : Bracket). minus w (ends x) (ends (given w target))) i

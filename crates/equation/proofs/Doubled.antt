@@ -3,11 +3,11 @@
 use mathlib.Core.Path.{_≡_}
 use mathlib.Core.Bool.{Bool, true, false}
 use mathlib.Core.List.{List}
-use Prim.Native.Nat.{ℕ, suc, _+_, _-_, _*_, _^_, _≤_, _<_}
+use Prim.Native.Nat.{ℕ, suc, _+_, _-_, _*_, _^_, _≤_}
 use native.Mathlib.Nat.{le-refl, mul-le-mul-right, zero-mul}
 use native.Mathlib.Omega.{arith}
 use lib.Pow.{pow-add, pow-pos}
-use Rattle.exact.specs.Fraction.{Fraction, nat, parts, _⊖_, _⊗_, _≼_, _≈_}
+use Rattle.exact.specs.Fraction.{Fraction, parts, _⊖_, _⊗_, _≼_, _≈_}
 use Rattle.exact.specs.Fraction.Order.{≈-≼-trans, ≼-≈-trans, ≈-sym, ≈-trans}
 use Rattle.exact.specs.Fraction.Parts.{parts-≈, ≼-parts, ≼-parts-zero, parts-nat}
 use Rattle.sheet.specs.Number.{bias}
@@ -16,13 +16,13 @@ use Rattle.doubles.specs.Handed.{DoubleValue}
 use Rattle.term.specs.Sound.{soundTable}
 use Rattle.bracket.specs.declared.Bracket.{Bracket}
 use Rattle.bracket.specs.Span.{Each}
-use Rattle.bracket.specs.Rules.{ends, given, minus}
+use Rattle.bracket.specs.Rules.{ends}
 use Rattle.bracket.specs.Held.{Ends, Held}
 use Rattle.measure.specs.Measure.{Fine, Digited}
-use Rattle.measure.proofs.Sizes.{Summed, doubled-both, given-summed}
+use Rattle.measure.proofs.Sizes.{doubled-both, given-summed}
 use Rattle.equation.specs.Accepted.{Temperature, Density, Target}
 use Rattle.equation.specs.Ranged.{PressureIn}
-use Rattle.equation.specs.Rules.{sums, pressureOf, stiffnessOf, gibbsGapOf, pressure, stiffness, gibbsGap, targetGap, pressureGap}
+use Rattle.equation.specs.Rules.{stiffnessOf, gibbsGapOf, pressure, stiffness, gibbsGap, targetGap, pressureGap}
 use Rattle.equation.proofs.Weaker.{digits-fine, summed-fine, summed-digits}
 use Rattle.equation.proofs.Ranges.{room, fall, sums-ranged, pressureOf-digits, stiffnessOf-digits, gibbsGapOf-digits, pressures-apart, target-apart}
 use Rattle.equation.proofs.Holds.{combined-held}

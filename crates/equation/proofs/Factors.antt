@@ -2,11 +2,11 @@
 use mathlib.Core.Path.{_≡_}
 use mathlib.Core.Logic.{_⊎_, inl, inr}
 use mathlib.Core.Bool.{Bool, true, false}
-use Prim.Native.Nat.{ℕ, _+_, _-_, _*_, _^_, _≤_, _<_}
+use Prim.Native.Nat.{ℕ, _*_, _^_, _≤_}
 use native.Mathlib.Nat.{mul-le-mul-right, zero-mul}
 use native.Mathlib.Omega.{arith}
 use lib.Pow.{pow-add, pow-pos}
-use Rattle.exact.specs.Fraction.{Fraction, nat, parts, _≼_, _≺_, _≈_}
+use Rattle.exact.specs.Fraction.{Fraction, parts, _≈_}
 use Rattle.exact.specs.Fraction.Order.{≼-not-≺, ≈→≼, ≈-≼-trans, ≼-≈-trans, ≈-sym, ≈-trans}
 use Rattle.exact.specs.Fraction.Parts.{parts-≼, parts-nat, parts-zero, parts-nonpos}
 use Rattle.sheet.specs.Number.{bias}

@@ -1,28 +1,25 @@
 -- Every bracket that the code at 32 bits meets is held, its exponents between -20,000 and 20,000: the ranges read at 32 bits. Assumes nothing.
-use mathlib.Core.Path.{_≡_, sym, subst}
-use mathlib.Core.Bool.{true, false}
-use Prim.Native.Nat.{ℕ, zero, suc, _+_, _-_, _*_, _^_, _≤_, _<_}
-use native.Mathlib.Nat.{le-trans, le-refl}
+use Prim.Native.Nat.{ℕ, zero, suc, _+_, _-_, _^_, _≤_, _<_}
 use native.Mathlib.Omega.{arith}
-use Rattle.exact.specs.Fraction.{Fraction, nat, parts, _⊕_, _⊖_, _⊗_, _⊘_, _≼_, _≺_}
-use Rattle.sheet.specs.Number.{bias, value}
+use Rattle.exact.specs.Fraction.{Fraction, nat, _⊖_, _⊗_, _⊘_, _≺_}
+use Rattle.sheet.specs.Number.{bias}
 use Rattle.term.specs.declared.Term.{Term}
 use Rattle.term.specs.Bounds.{Bounds}
 use Rattle.bracket.specs.declared.Bracket.{Bracket}
-use Rattle.bracket.specs.Span.{Span, whole, point, Each, over}
-use Rattle.bracket.specs.Rules.{ends, rounded, given, plus, minus, times, divided, power}
+use Rattle.bracket.specs.Span.{Span, whole, Each, over}
+use Rattle.bracket.specs.Rules.{ends, rounded, given, minus, times, power}
 use Rattle.bracket.specs.Held.{Held, Powers}
 use Rattle.bracket.proofs.Corners.{over-ordered}
 use Rattle.bracket.proofs.Within.{point-ordered}
 use Rattle.bracket.proofs.Operands.{whole-held}
 use Rattle.series.specs.Exponential.{expneg}
-use Rattle.measure.specs.Measure.{Sized, Digited}
-use Rattle.measure.proofs.Sizes.{Positive, Plus, plus-positive, positive-sized, digits-sized, plus-sized, held-of, given-plus}
-use Rattle.equation.specs.Ranged.{HeldAs, DeltaIn, TauIn, GIn, EIn, VIn, WIn}
+use Rattle.measure.specs.Measure.{Digited}
+use Rattle.measure.proofs.Sizes.{Positive, Plus, positive-sized, digits-sized, held-of, given-plus}
+use Rattle.equation.specs.Ranged.{DeltaIn, TauIn, GIn, EIn, VIn, WIn}
 use Rattle.equation.specs.Constants.{criticalTemperature, gasConstant, exactCoefficient}
 use Rattle.equation.specs.Accepted.{Temperature, Density}
 use Rattle.equation.specs.Rules.{delta, tau, coefficient, factorE, termV, termW, factorW, factorS2}
-use Rattle.equation.proofs.Weaker.{plus-in, digits-in, plus-digits}
+use Rattle.equation.proofs.Weaker.{plus-digits}
 use Rattle.equation.proofs.Ranges.{room, coefficient-sized, powers-plus, tau-powers-plus, g-plus, coefficient-delta, coefficient-delta-tau, termV-sized, whole-g, termW-sized, less-one, factorW-sized, factorS2-sized, factorE-positive, addend1, addend2, density-plus, temperature-plus, critical-plus, gas-plus, small-whole, delta-plus, tau-plus}
 
 -- a rule's bracket whose ends are zero or from 2^-19900 to 2^19900

@@ -1,22 +1,18 @@
 -- What pressure, stiffness, Gibbs gap and the gaps are made of is held at 32 bits. Assumes nothing.
-use mathlib.Core.Path.{_≡_}
-use Prim.Native.Nat.{ℕ, _+_, _-_, _*_, _≤_, _<_}
 use native.Mathlib.Omega.{arith}
-use Rattle.exact.specs.Fraction.{Fraction, nat, _⊕_, _⊖_, _⊗_, _≼_}
-use Rattle.sheet.specs.Number.{bias}
-use Rattle.bracket.specs.declared.Bracket.{Bracket}
-use Rattle.bracket.specs.Span.{whole, Each}
-use Rattle.bracket.specs.Rules.{ends, given, plus, minus, times}
+use Rattle.exact.specs.Fraction.{Fraction, _⊕_, _⊖_, _⊗_, _≼_}
+use Rattle.bracket.specs.Span.{whole}
+use Rattle.bracket.specs.Rules.{ends, given, plus, times}
 use Rattle.bracket.specs.Held.{Held}
 use Rattle.series.specs.Logarithm.{lnRatio, lnScaled}
 use Rattle.series.proofs.LnRatioRange.{lnRatio-summed}
 use Rattle.equation.specs.declared.Sums.{Sums}
 use Rattle.equation.specs.Constants.{gasConstant}
 use Rattle.equation.specs.Accepted.{Temperature, Density}
-use Rattle.equation.specs.Ranged.{HeldAs, SumsIn, PressureIn}
-use Rattle.equation.specs.Rules.{gasHeat, densityHeat, pressureFactor, stiffnessFactor, sumsApart, pressureOf, stiffnessOf, gibbsGapOf}
+use Rattle.equation.specs.Ranged.{SumsIn, PressureIn}
+use Rattle.equation.specs.Rules.{gasHeat, densityHeat, pressureFactor, stiffnessFactor, sumsApart, pressureOf}
 use Rattle.equation.proofs.Weaker.{plus-digits, summed-digits}
-use Rattle.equation.proofs.Ranges.{room, gasHeat-plus, rho-gas, densityHeat-plus, pressureFactor-digits, pressureOf-digits, twice, one-twice, stiffnessFactor-summed, stiffnessOf-digits, zeroth-first, sumsApart-summed, logarithm-apart, gibbsGapOf-digits}
+use Rattle.equation.proofs.Ranges.{room, gasHeat-plus, rho-gas, densityHeat-plus, pressureFactor-digits, pressureOf-digits, twice, one-twice, stiffnessFactor-summed, zeroth-first, sumsApart-summed, logarithm-apart}
 use Rattle.equation.proofs.Holds.{combined-held}
 
 pub lnRatio-held : {liquid vapour : Fraction} → Density liquid → Density vapour → vapour ≼ liquid → Held (lnRatio 32 liquid vapour)

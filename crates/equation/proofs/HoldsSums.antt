@@ -2,15 +2,14 @@
 use mathlib.Core.Path.{_≡_}
 use mathlib.Core.Bool.{true}
 use mathlib.Core.List.{List}
-use Prim.Native.Nat.{ℕ, zero, suc, _+_, _-_, _*_, _/_, _≤_, _<_}
+use Prim.Native.Nat.{ℕ, zero, suc, _+_, _-_, _≤_}
 use native.Mathlib.Nat.{le-trans, le-refl}
 use native.Mathlib.Omega.{arith}
-use lib.ListN.{length}
-use Rattle.exact.specs.Fraction.{Fraction, nat, _⊕_}
+use Rattle.exact.specs.Fraction.{Fraction, _⊕_}
 use Rattle.sheet.specs.Number.{bias}
 use Rattle.term.specs.declared.Term.{Term}
-use Rattle.term.specs.Bounds.{Bounds, Whole}
-use Rattle.term.specs.Packed.{termAt, countTerms}
+use Rattle.term.specs.Bounds.{Bounds}
+use Rattle.term.specs.Packed.{countTerms}
 use Rattle.term.specs.Sound.{soundTable}
 use Rattle.term.proofs.Answers.{sound-whole, sound-bounds}
 use Rattle.bracket.specs.declared.Bracket.{Bracket}
@@ -19,10 +18,9 @@ use Rattle.bracket.specs.Rules.{ends, plus}
 use Rattle.bracket.specs.Held.{Held}
 use Rattle.bracket.proofs.Operands.{whole-held}
 use Rattle.measure.proofs.Sizes.{Summed}
-use Rattle.equation.specs.declared.Sums.{Sums}
 use Rattle.equation.specs.Accepted.{Temperature, Density}
-use Rattle.equation.specs.Ranged.{DeltaIn, TauIn, GIn, VIn, WIn, AllHeld, EachSum, Ranged, SumsIn}
-use Rattle.equation.specs.Rules.{delta, tau, factorE, termV, termW, addendsOf, addends, plusEach, noSums, sumsFirst, sums}
+use Rattle.equation.specs.Ranged.{DeltaIn, TauIn, AllHeld, EachSum, SumsIn}
+use Rattle.equation.specs.Rules.{addendsOf, addends, plusEach, noSums, sumsFirst, sums}
 use Rattle.equation.proofs.Weaker.{summed-digits}
 use Rattle.equation.proofs.Ranges.{room, sumsFirst-summed, sums-ranged}
 use Rattle.equation.proofs.Holds.{combined-held, delta-in, tau-in, g-in, e-in, v-in, w-in, addend1-held, addend2-held}

@@ -1,3 +1,4 @@
+-- The laws of the equation. Assumes nothing.
 pub mod Short
 pub mod Small
 pub mod Covers

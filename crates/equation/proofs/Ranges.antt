@@ -1,17 +1,17 @@
 -- The range of every bracket that the rules meet, for every sound table and every accepted input, over the count of bits suc v: the exponents
 -- n of 2^n between which its ends lie, zero aside. Rough numbers suffice. Assumes nothing.
-use mathlib.Core.Path.{_≡_, refl, sym, ap, _∙_}
-use mathlib.Core.Logic.{_⊎_, inl, inr}
+use mathlib.Core.Path.{_≡_, sym, ap, _∙_}
+use mathlib.Core.Logic.{inr}
 use mathlib.Core.Bool.{true, false}
 use mathlib.Core.List.{List}
-use Prim.Native.Nat.{ℕ, zero, suc, _+_, _-_, _*_, _/_, _^_, _≤_, _<_}
-use native.Mathlib.Nat.{le-refl, le-trans, le-of-eq, le-of-lt, mul-le-mul, mul-le-mul-right, one-mul}
+use Prim.Native.Nat.{ℕ, zero, suc, _+_, _-_, _*_, _^_, _≤_, _<_}
+use native.Mathlib.Nat.{le-refl, le-of-lt, mul-le-mul, mul-le-mul-right, one-mul}
 use native.Mathlib.Omega.{arith}
 use lib.Dec.{lit≤}
-use lib.Pow.{pow-add, pow-mono, pow-pos}
-use Rattle.exact.specs.Fraction.{Fraction, nat, parts, _≼_, _≺_, _≈_}
-use Rattle.exact.specs.Fraction.Order.{≼-trans, ≼-refl, ≺-≼-trans, ≼-≈-trans, ≈-≼-trans, ≈-sym, ≈-refl}
-use Rattle.exact.specs.Fraction.Parts.{nat-pos, nat-≼, parts-nat, parts-pos, parts-≼}
+use lib.Pow.{pow-add, pow-mono}
+use Rattle.exact.specs.Fraction.{Fraction, nat, parts, _≼_}
+use Rattle.exact.specs.Fraction.Order.{≼-refl, ≺-≼-trans, ≼-≈-trans, ≈-≼-trans, ≈-sym, ≈-refl}
+use Rattle.exact.specs.Fraction.Parts.{nat-pos, parts-nat, parts-pos}
 use Rattle.sheet.specs.Number.{bias}
 use Rattle.term.specs.declared.Term.{Term}
 use Rattle.term.specs.Bounds.{Bounds, Whole}
@@ -21,21 +21,20 @@ use Rattle.term.proofs.Answers.{sound-whole, sound-bounds}
 use lib.ListN.{length}
 use Rattle.bracket.specs.declared.Bracket.{Bracket}
 use Rattle.bracket.specs.Span.{Span, whole, Each, Ordered}
-use Rattle.bracket.specs.Rules.{ends, given, plus, minus, times, divided, power}
+use Rattle.bracket.specs.Rules.{ends, given, plus, minus, times, power}
 use Rattle.bracket.proofs.Inclusion.{power-ordered}
-use Rattle.series.specs.Exponential.{expneg}
 use Rattle.series.proofs.ExponentialRange.{expneg-plus}
 use Rattle.series.proofs.LnRatioRange.{lnRatio-summed}
 use Rattle.series.specs.Logarithm.{lnRatio}
 use Rattle.equation.proofs.Small.{delta-up-to}
 use Rattle.equation.specs.declared.Sums.{Sums}
-use Rattle.equation.specs.Constants.{criticalTemperature, criticalDensity, gasConstant, exactCoefficient}
+use Rattle.equation.specs.Constants.{criticalTemperature, gasConstant}
 use Rattle.equation.specs.Ranged.{EachSum, Ranged}
 use Rattle.equation.specs.Accepted.{Temperature, Density}
-use Rattle.measure.specs.Measure.{Sized, Fine, Digited}
-use Rattle.equation.specs.Rules.{delta, tau, coefficient, factorE, termV, termW, factorW, factorS2, addendsOf, addends, plusEach, noSums, sumsFirst, sums, gasHeat, densityHeat, pressureFactor, stiffnessFactor, sumsApart, pressureOf, stiffnessOf, gibbsGapOf, pressure, stiffness, gibbsGap, targetGap, pressureGap}
+use Rattle.measure.specs.Measure.{Fine, Digited}
+use Rattle.equation.specs.Rules.{delta, tau, coefficient, factorE, termV, termW, factorW, factorS2, addendsOf, addends, plusEach, noSums, sumsFirst, sums, gasHeat, densityHeat, pressureFactor, stiffnessFactor, sumsApart, pressureOf, stiffnessOf, gibbsGapOf}
 use Rattle.measure.proofs.Lift.{each-map}
-use Rattle.measure.proofs.Measure.{digited-sized, digited-fine, digited-in, fine-in, nat-fine, nat-sized, between-sized}
+use Rattle.measure.proofs.Measure.{fine-in, nat-fine, nat-sized, between-sized}
 use Rattle.measure.proofs.Sizes.{Summed, Positive, Plus, plus-positive, positive-sized, digits-sized, plus-sized, whole-positive, given-plus, times-plus, divided-plus, power-plus, given-sized, given-summed, times-sized, whole-times-summed, plus-summed, minus-summed, whole-plus, whole-minus, minus-whole}
 use Rattle.equation.proofs.Weaker.{most-plus, plus-in, digits-in, digits-fine, summed-fine, summed-digits, summed-in, plus-digits}
 

@@ -1,16 +1,14 @@
 -- A whole number of few digits, times a power of two, stays on its side of a rounding. Assumes nothing.
-use mathlib.Core.Path.{_≡_, refl, sym, subst}
+use mathlib.Core.Path.{_≡_, refl}
 use mathlib.Core.Bool.{Bool, true, false}
-use Prim.Native.Nat.{ℕ, suc, _+_, _*_, _^_, _≤_, _<_}
-use native.Mathlib.Nat.{le-of-eq}
+use Prim.Native.Nat.{ℕ, suc, _+_, _*_, _^_, _<_}
 use native.Mathlib.Omega.{arith}
 use lib.Pow.{pow-add, pow-pos}
 use Rattle.exact.specs.Fraction.{Fraction, nat, parts, _≼_, _≈_}
-use Rattle.exact.specs.Fraction.Order.{≼-trans, ≼-≈-trans, ≈-≼-trans, ≈-sym, ≈-trans, ≈→≼}
+use Rattle.exact.specs.Fraction.Order.{≼-trans, ≼-≈-trans, ≈-≼-trans, ≈-sym}
 use Rattle.exact.specs.Fraction.Parts.{parts-nat, parts-≼}
-use Rattle.sheet.specs.declared.Sheet.{Sheet}
 use Rattle.sheet.specs.Magnitude.{Magnitude, units, roundMag}
-use Rattle.sheet.specs.Number.{bias, value, signed}
+use Rattle.sheet.specs.Number.{bias, value}
 use Rattle.sheet.specs.Round.{away, round, up, down}
 use Rattle.sheet.proofs.Laws.{round-mono}
 use Rattle.sheet.proofs.Rounding.{keep-low, keep-high}

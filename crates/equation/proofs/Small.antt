@@ -4,7 +4,7 @@ use native.Mathlib.Nat.{le-of-eq}
 use native.Mathlib.Omega.{arith}
 use mathlib.Core.Path.{_≡_, refl}
 use lib.Pow.{pow-add, pow-mono, pow-pos}
-use Rattle.exact.specs.Fraction.{Fraction, nat, _⊗_, _⊘_, _≼_}
+use Rattle.exact.specs.Fraction.{Fraction, nat, _⊗_, _⊘_}
 use Rattle.exact.specs.Fraction.Order.{≼-trans, ≼-≈-trans, ≈-≼-trans, ≈-sym, ≺→≼}
 use Rattle.exact.specs.Fraction.Parts.{nat-≼, nat-pos, nat-⊗, nat-nonneg, parts-pos}
 use Rattle.exact.specs.Fraction.Product.{⊗-nonneg, ⊗-mono}

@@ -1,5 +1,4 @@
 -- The accepted inputs (document 01, "Inputs") by their exact values. Assumes nothing.
-use Prim.Native.Nat.{ℕ}
 use mathlib.Core.Bool.{false}
 use Rattle.exact.specs.Fraction.{Fraction, nat, parts, _≼_}
 

@@ -1,9 +1,8 @@
 -- The equation itself at a level N (document 01, "The equation itself"): the formulas of "The equation, step by step" on exact fractions of
 -- the exact inputs. Nothing here is rounded, and no count of bits occurs. Assumes nothing.
-use Prim.Native.Nat.{ℕ, zero, suc, _*_, _^_}
-use mathlib.Core.Bool.{false}
+use Prim.Native.Nat.{ℕ, zero, suc, _*_}
 use mathlib.Core.List.{List}
-use Rattle.exact.specs.Fraction.{Fraction, nat, parts, _⊕_, _⊖_, _⊗_, _⊘_}
+use Rattle.exact.specs.Fraction.{Fraction, nat, _⊕_, _⊖_, _⊗_, _⊘_}
 use Rattle.exact.specs.Series.{power, expnegAt}
 use Rattle.term.specs.declared.Term.{Term}
 use Rattle.term.specs.Packed.{termAt, countTerms}

@@ -1,3 +1,4 @@
+-- The rules, the equation itself, and what the contracts cite. Assumes nothing.
 pub mod Constants
 pub mod Itself
 pub mod Rules

@@ -1,5 +1,5 @@
 -- `equation::addends::addends_of` meets its contract. Assumes nothing.
-use mathlib.Core.Path.{_≡_, refl}
+use mathlib.Core.Path.{refl}
 use borrow.Author.Needs.{needs}
 use Rattle.equation.specs.Rules.{addendsOf}
 use Rattle.equation.proofs.Steps.{held-is, times-of}

@@ -1,5 +1,5 @@
 -- `equation::addends::factor_e` meets its contract. Assumes nothing.
-use mathlib.Core.Path.{_≡_, _∙_}
+use mathlib.Core.Path.{_∙_}
 use native.Mathlib.Omega.{arith}
 use borrow.Author.Needs.{needs}
 use Rattle.series.proofs.ExponentialSteps.{factor-taken}

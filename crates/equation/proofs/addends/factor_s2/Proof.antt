@@ -1,11 +1,10 @@
 -- `equation::addends::factor_s2` meets its contract. Assumes nothing.
-use mathlib.Core.Path.{_≡_, ap, ap₂, _∙_}
+use mathlib.Core.Path.{_∙_}
 use Prim.Native.Nat.{ℕ, _*_, _≤_, _<_}
 use native.Mathlib.Nat.{mul-le-mul, mul-pos}
 use native.Mathlib.Omega.{arith}
 use borrow.Author.Needs.{needs}
-use Rattle.bracket.specs.declared.Bracket.{Bracket}
-use Rattle.bracket.specs.Rules.{ends, minus}
+use Rattle.bracket.specs.Rules.{ends}
 use Rattle.bracket.proofs.Operands.{whole-held, times-whole}
 use Rattle.equation.proofs.Steps.{held-is, minus-of}
 use Rattle.equation.proofs.Cases.{factorS2-none, factorS2-some}

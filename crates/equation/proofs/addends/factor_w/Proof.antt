@@ -1,10 +1,9 @@
 -- `equation::addends::factor_w` meets its contract. Assumes nothing.
-use mathlib.Core.Path.{_≡_, refl, _∙_}
+use mathlib.Core.Path.{refl, _∙_}
 use native.Mathlib.Omega.{arith}
 use borrow.Author.Needs.{needs}
-use Rattle.bracket.specs.declared.Bracket.{Bracket}
 use Rattle.bracket.specs.Span.{whole}
-use Rattle.bracket.specs.Rules.{ends, minus}
+use Rattle.bracket.specs.Rules.{ends}
 use Rattle.bracket.proofs.Operands.{whole-held, minus-whole}
 use Rattle.equation.specs.Rules.{factorW}
 use Rattle.equation.proofs.Steps.{held-is, times-of}

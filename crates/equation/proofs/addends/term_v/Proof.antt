@@ -1,5 +1,5 @@
 -- `equation::addends::term_v` meets its contract. Assumes nothing.
-use mathlib.Core.Path.{_≡_, refl}
+use mathlib.Core.Path.{refl}
 use native.Mathlib.Omega.{arith}
 use borrow.Author.Needs.{needs}
 use Rattle.equation.specs.Rules.{termV}

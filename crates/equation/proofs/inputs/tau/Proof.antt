@@ -1,5 +1,5 @@
 -- `equation::inputs::tau` meets its contract. Assumes nothing.
-use mathlib.Core.Path.{_≡_, sym, subst}
+use mathlib.Core.Path.{sym, subst}
 use borrow.Author.Needs.{needs}
 use Rattle.exact.specs.Fraction.{nat, _≺_}
 use Rattle.bracket.specs.declared.Bracket.{Bracket}

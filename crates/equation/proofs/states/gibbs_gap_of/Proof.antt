@@ -1,7 +1,5 @@
 -- `equation::states::gibbs_gap_of` meets its contract. Assumes nothing.
-use mathlib.Core.Bool.{true}
 use borrow.Author.Needs.{needs}
-use Rattle.exact.specs.Fraction.{_≼_}
 use Rattle.exact.specs.Fraction.Order.{≼-by}
 use Rattle.equation.specs.Rules.{gibbsGapOf}
 use Rattle.equation.proofs.Steps.{held-is, plus-of, times-of}

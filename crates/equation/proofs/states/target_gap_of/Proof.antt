@@ -1,5 +1,5 @@
 -- `equation::states::target_gap_of` meets its contract. Assumes nothing.
-use mathlib.Core.Path.{_≡_, refl, sym, subst}
+use mathlib.Core.Path.{refl, sym, subst}
 use lib.Dec.{T}
 use Rattle.bracket.proofs.Operands.{double-held}
 use Rattle.equation.proofs.Steps.{held-is, minus-of}

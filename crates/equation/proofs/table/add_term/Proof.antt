@@ -1,5 +1,5 @@
 -- `equation::table::add_term` meets its contract. Assumes nothing.
-use mathlib.Core.Path.{_≡_, sym, ap, subst, _∙_}
+use mathlib.Core.Path.{sym, ap, subst, _∙_}
 use Rattle.term.specs.declared.Term.{Term}
 use Rattle.term.specs.Bounds.{Bounds}
 use Rattle.term.proofs.Answers.{sound-bounds, sound-reach}

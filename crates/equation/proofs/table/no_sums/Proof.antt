@@ -1,5 +1,4 @@
 -- `equation::table::no_sums` meets its contract. Assumes nothing.
-use mathlib.Core.Path.{_≡_}
 use borrow.Author.Needs.{needs}
 use Rattle.equation.specs.Rules.{noSums}
 use Rattle.equation.proofs.table.no_sums.Statement.{statement}

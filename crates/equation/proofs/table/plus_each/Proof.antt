@@ -1,5 +1,4 @@
 -- `equation::table::plus_each` meets its contract. Assumes nothing.
-use mathlib.Core.Path.{_≡_}
 use borrow.Author.Needs.{needs}
 use Rattle.equation.specs.Rules.{plusEach}
 use Rattle.equation.proofs.table.plus_each.Statement.{statement}

@@ -1,7 +1,6 @@
 -- `equation::table::sums_of` meets its contract: after i turns the sums are those over the first i terms. Assumes nothing.
-use mathlib.Core.Path.{_≡_, sym, ap, ap₂, subst, subst₂, _∙_}
-use Prim.Native.Nat.{ℕ, _+_, _-_, _≤_, _<_}
-use native.Mathlib.Nat.{le-antisymm}
+use mathlib.Core.Path.{_≡_, sym, ap, ap₂, subst, _∙_}
+use Prim.Native.Nat.{ℕ, _-_, _≤_}
 use native.Mathlib.Omega.{arith}
 use Rattle.doubles.specs.Double.{exactOf}
 use Rattle.bracket.specs.declared.Bracket.{Bracket}
