@@ -1,0 +1,3 @@
+-- What the proofs of the program share. Assumes nothing.
+pub mod Given
+pub mod Pattern
