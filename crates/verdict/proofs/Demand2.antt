@@ -1,5 +1,5 @@
--- Demand 2: the ends of an answer are the rule's own, to the last bit, and the value of the equation itself lies between them at every level
--- from 256. Where a number has no ends they are zero (`proofs/Demand1.antt`). Assumes nothing.
+-- Demand 2: the ends of an answer are the rule's own, to the last bit: the f64s of exactly the two values of the rule's bracket. The value of
+-- the equation itself lies between them at every level from 256. Where a number has no ends they are zero (`proofs/Demand1.antt`). Assumes nothing.
 use Prim.Native.Nat.{ℕ, _≤_}
 use mathlib.Core.Path.{_≡_, refl, sym, ap, _∙_, subst}
 use mathlib.Core.Bool.{Bool, true, false, _&&_}
@@ -20,19 +20,20 @@ use Rattle.equation.specs.Rules.{pressure, stiffness, gibbsGap, targetGap, pres
 use Rattle.equation.specs.Itself.{pressureAt, stiffnessAt, gibbsGapAt}
 use Rattle.equation.proofs.Covers.{covers-pressure, covers-stiffness, covers-gibbsGap, covers-targetGap, covers-pressureGap}
 use Rattle.verdict.specs.declared.Ends.{Ends}
-use Rattle.verdict.specs.Reading.{number, handed, sheetNumber, sheetPressure, sheetStiffness, Between}
+use Rattle.verdict.specs.Reading.{number, handed, sheetNumber, sheetPressure, sheetStiffness}
 use Rattle.verdict.specs.Steps.{FailsAt, firstFailing}
 use Rattle.verdict.specs.Rules.{handedOut, stateSteps, stateAnswer, densitySteps, densityAnswer, pairSteps, pairAnswer}
+use Rattle.verdict.specs.Balance.{Covers}
 use Rattle.verdict.specs.Handed.{Handy}
 use Rattle.verdict.proofs.Order.{accepted, all-pass, fails-at, either}
 use Rattle.verdict.proofs.Tests.{both, together, holds, temperature-in, density-in, sides}
-use Rattle.verdict.proofs.HandedOut.{handed-between}
+use Rattle.verdict.proofs.HandedOut.{handed-covers}
 use Rattle.verdict.proofs.Ready.{pressure-handy, stiffness-handy, targetGap-handy, pressureGap-handy, gibbsGap-handy}
 use Rattle.verdict.proofs.Demand1.{density-9, density-11, pair-9, pair-10}
 
--- what lies in a bracket lies between the ends that are handed out for it
-between : (e : Ends) (b : Bracket) → Handy b → e ≡ handedOut b → {x : Fraction} → x ∈ ends b → Between e x
-between e b h p i = rw p (handed-between b h i)
+-- what lies in a bracket is covered by the ends that are handed out for it
+between : (e : Ends) (b : Bracket) → Handy b → e ≡ handedOut b → {x : Fraction} → x ∈ ends b → Covers e b x
+between e b h p i = rw p (handed-covers b h i)
 
 -- a table whose length and whose terms pass is sound
 sound : (table : List ℕ) → soundLength (length table) ≡ true → eqb (firstBroken table) 0 ≡ true → soundTable table ≡ true
@@ -52,8 +53,8 @@ module _ (table : List ℕ) (t rho : Float) (zero : sheetNumber (stateAnswer 32 
 
   -- and cover the equation itself
   pub state-covers : (N : ℕ) → 256 ≤ N
-      → Between (sheetPressure (stateAnswer 32 table t rho)) (pressureAt N table (exactOf t) (exactOf rho))
-      × Between (sheetStiffness (stateAnswer 32 table t rho)) (stiffnessAt N table (exactOf t) (exactOf rho))
+      → Covers (sheetPressure (stateAnswer 32 table t rho)) (pressure 32 table (exactOf t) (exactOf rho)) (pressureAt N table (exactOf t) (exactOf rho))
+      × Covers (sheetStiffness (stateAnswer 32 table t rho)) (stiffness 32 table (exactOf t) (exactOf rho)) (stiffnessAt N table (exactOf t) (exactOf rho))
   unfolding stateAnswer
   state-covers N high =
       let steps = accepted sheetNumber 0 (stateSteps 32 table t rho) _ tt refl .0 zero in
@@ -76,7 +77,8 @@ module _ (table : List ℕ) (t rho target tolerance : Float) where
         let steps = densitySteps 32 table t rho target tolerance in
         ap handed (all-pass steps _ (accepted number 0 steps _ tt refl .0 zero))
 
-    pub density-covers : (N : ℕ) → 256 ≤ N → Between (handed (densityAnswer 32 table t rho target tolerance)) (pressureAt N table (exactOf t) (exactOf rho))
+    pub density-covers : (N : ℕ) → 256 ≤ N → Covers (handed (densityAnswer 32 table t rho target tolerance)) (pressure 32 table (exactOf t) (exactOf rho))
+        (pressureAt N table (exactOf t) (exactOf rho))
     unfolding densityAnswer
     density-covers N high =
         let steps = accepted number 0 (densitySteps 32 table t rho target tolerance) _ tt refl .0 zero in
@@ -94,7 +96,8 @@ module _ (table : List ℕ) (t rho target tolerance : Float) where
         ap handed (fails-at 7 (densitySteps 32 table t rho target tolerance) _ (density-9 32 table t rho target tolerance .0 nine))
 
     pub density-gap-covers : T (fits binary64 target) → (N : ℕ) → 256 ≤ N
-        → Between (handed (densityAnswer 32 table t rho target tolerance)) (pressureAt N table (exactOf t) (exactOf rho) ⊖ exactOf target)
+        → Covers (handed (densityAnswer 32 table t rho target tolerance)) (targetGap 32 table (exactOf t) (exactOf rho) (exactOf target))
+        (pressureAt N table (exactOf t) (exactOf rho) ⊖ exactOf target)
     density-gap-covers fit N high =
         let steps = density-9 32 table t rho target tolerance .0 nine in
         let hot = holds (steps .1 .1 .0) in
@@ -111,7 +114,8 @@ module _ (table : List ℕ) (t rho target tolerance : Float) where
         ap handed (fails-at 8 (densitySteps 32 table t rho target tolerance) _ (density-11 32 table t rho target tolerance .0 eleven))
 
     pub density-stiffness-covers : (N : ℕ) → 256 ≤ N
-        → Between (handed (densityAnswer 32 table t rho target tolerance)) (stiffnessAt N table (exactOf t) (exactOf rho))
+        → Covers (handed (densityAnswer 32 table t rho target tolerance)) (stiffness 32 table (exactOf t) (exactOf rho))
+        (stiffnessAt N table (exactOf t) (exactOf rho))
     density-stiffness-covers N high =
         let steps = density-11 32 table t rho target tolerance .0 eleven in
         let hot = holds (steps .1 .1 .0) in
@@ -131,7 +135,8 @@ module _ (table : List ℕ) (t liquid vapour pressureTolerance gibbsTolerance : 
         ap handed (all-pass steps _ (accepted number 0 steps _ tt refl .0 zero))
 
     pub pair-covers : (N : ℕ) → 256 ≤ N
-        → Between (handed (pairAnswer 32 table t liquid vapour pressureTolerance gibbsTolerance)) (pressureAt N table (exactOf t) (exactOf vapour))
+        → Covers (handed (pairAnswer 32 table t liquid vapour pressureTolerance gibbsTolerance)) (pressure 32 table (exactOf t) (exactOf vapour))
+        (pressureAt N table (exactOf t) (exactOf vapour))
     unfolding pairAnswer
     pair-covers N high =
         let steps = accepted number 0 (pairSteps 32 table t liquid vapour pressureTolerance gibbsTolerance) _ tt refl .0 zero in
@@ -152,7 +157,7 @@ module _ (table : List ℕ) (t liquid vapour pressureTolerance gibbsTolerance : 
         (pair-9 32 table t liquid vapour pressureTolerance gibbsTolerance .0 nine))
 
     pub pair-gap-covers : (N : ℕ) → 256 ≤ N
-        → Between (handed (pairAnswer 32 table t liquid vapour pressureTolerance gibbsTolerance))
+        → Covers (handed (pairAnswer 32 table t liquid vapour pressureTolerance gibbsTolerance)) (pressureGap 32 table (exactOf t) (exactOf liquid) (exactOf vapour))
         (pressureAt N table (exactOf t) (exactOf liquid) ⊖ pressureAt N table (exactOf t) (exactOf vapour))
     pair-gap-covers N high =
         let steps = pair-9 32 table t liquid vapour pressureTolerance gibbsTolerance .0 nine in
@@ -175,7 +180,7 @@ module _ (table : List ℕ) (t liquid vapour pressureTolerance gibbsTolerance : 
         (pair-10 32 table t liquid vapour pressureTolerance gibbsTolerance .0 ten))
 
     pub pair-gibbs-covers : (N : ℕ) → 256 ≤ N
-        → Between (handed (pairAnswer 32 table t liquid vapour pressureTolerance gibbsTolerance))
+        → Covers (handed (pairAnswer 32 table t liquid vapour pressureTolerance gibbsTolerance)) (gibbsGap 32 table (exactOf t) (exactOf liquid) (exactOf vapour))
         (gibbsGapAt N table (exactOf t) (exactOf liquid) (exactOf vapour))
     pair-gibbs-covers N high =
         let steps = pair-10 32 table t liquid vapour pressureTolerance gibbsTolerance .0 ten in
@@ -207,7 +212,8 @@ module _ (table : List ℕ) (t liquid vapour pressureTolerance gibbsTolerance : 
   vapour-stiffness-ends f = ap handed (fails-at 10 (pairSteps 32 table t liquid vapour pressureTolerance gibbsTolerance) _ f)
 
   pub liquid-stiffness-covers : FailsAt 9 (pairSteps 32 table t liquid vapour pressureTolerance gibbsTolerance) → (N : ℕ) → 256 ≤ N
-      → Between (handed (pairAnswer 32 table t liquid vapour pressureTolerance gibbsTolerance)) (stiffnessAt N table (exactOf t) (exactOf liquid))
+      → Covers (handed (pairAnswer 32 table t liquid vapour pressureTolerance gibbsTolerance)) (stiffness 32 table (exactOf t) (exactOf liquid))
+      (stiffnessAt N table (exactOf t) (exactOf liquid))
   liquid-stiffness-covers steps N high =
       let hot = holds (steps .1 .1 .0) in
       let dense = holds (both (acceptedDensity liquid) (acceptedDensity vapour) (steps .1 .1 .1 .0) .0) in
@@ -215,7 +221,8 @@ module _ (table : List ℕ) (t liquid vapour pressureTolerance gibbsTolerance : 
       (covers-stiffness 31 N (lit≤ tt) high table (temperature-in t hot) (density-in liquid dense))
 
   pub vapour-stiffness-covers : FailsAt 10 (pairSteps 32 table t liquid vapour pressureTolerance gibbsTolerance) → (N : ℕ) → 256 ≤ N
-      → Between (handed (pairAnswer 32 table t liquid vapour pressureTolerance gibbsTolerance)) (stiffnessAt N table (exactOf t) (exactOf vapour))
+      → Covers (handed (pairAnswer 32 table t liquid vapour pressureTolerance gibbsTolerance)) (stiffness 32 table (exactOf t) (exactOf vapour))
+      (stiffnessAt N table (exactOf t) (exactOf vapour))
   vapour-stiffness-covers steps N high =
       let hot = holds (steps .1 .1 .0) in
       let thin = holds (both (acceptedDensity liquid) (acceptedDensity vapour) (steps .1 .1 .1 .0) .1) in

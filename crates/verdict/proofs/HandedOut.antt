@@ -6,7 +6,6 @@ use lib.Dec.{T, lit≤}
 use lib.Ieee.{Float, isNan}
 use lib.Ieee.Scale.{finite}
 use Rattle.exact.specs.Fraction.{Fraction, nat, negate, leq, _≈_, _≼_}
-use Rattle.exact.specs.Ends.{Within}
 use Rattle.exact.specs.Fraction.Order.{≈-sym, ≈-≼-trans, ≼-≈-trans}
 use Rattle.sheet.specs.declared.Sheet.{Sheet}
 use Rattle.sheet.specs.Number.{value}
@@ -14,7 +13,7 @@ use Rattle.sheet.specs.Range.{Doubled}
 use Rattle.doubles.specs.Double.{exactOf}
 use Rattle.doubles.specs.Handed.{doubleOf, DoubleValue}
 use Rattle.doubles.specs.Range.{withinTolerance}
-use Rattle.doubles.proofs.Handed.{doubleOf-finite, doubleOf-exact, leq-double, double-leq}
+use Rattle.doubles.proofs.Handed.{doubleOf-finite, doubleOf-exact, doubleOf-zero, leq-double, double-leq}
 use Rattle.doubles.proofs.Write.{sheet-double, normal-few}
 use Rattle.doubles.proofs.Pattern.{no-nan}
 use Rattle.bracket.specs.declared.Bracket.{Bracket}
@@ -22,9 +21,19 @@ use Rattle.bracket.specs.Span.{_∈_}
 use Rattle.bracket.specs.Rules.{ends}
 use Rattle.bracket.specs.Held.{Held, Ends as Both}
 use Rattle.verdict.specs.declared.Ends.{Ends}
-use Rattle.verdict.specs.Reading.{Numbers, zeros}
+use Rattle.verdict.specs.Reading.{Numbers, zeros, plainZero}
 use Rattle.verdict.specs.Rules.{handedOut, underCeiling, gapPasses, pushesBack}
+use Rattle.verdict.specs.Balance.{Covers}
 use Rattle.verdict.specs.Handed.{Handy, EndsFinite}
+
+-- an end that is zero is +0.0
+pub zero-lower : (b : Bracket) → value (b .lo) ≈ nat 0 → handedOut b .lower ≡ plainZero
+unfolding handedOut
+zero-lower b z = doubleOf-zero z
+
+pub zero-upper : (b : Bracket) → value (b .hi) ≈ nat 0 → handedOut b .upper ≡ plainZero
+unfolding handedOut
+zero-upper b z = doubleOf-zero z
 
 -- a bracket in range whose ends are exactly f64s
 pub handy : (b : Bracket) → Held b → Both Doubled b → Handy b
@@ -55,14 +64,13 @@ module _ (b : Bracket) (h : Handy b) where
   unfolding handedOut
   handed-finite = record { lower-finite = doubleOf-finite (value (b .lo)) lower-exact; upper-finite = doubleOf-finite (value (b .hi)) upper-exact }
 
-  -- a number in the bracket lies between the two f64s
-  pub handed-between : {x : Fraction} → x ∈ ends b → Within (exactOf (handedOut b .lower)) (exactOf (handedOut b .upper)) x
+  -- the two f64s are exactly the ends, and a number in the bracket lies between them
+  pub handed-covers : {x : Fraction} → x ∈ ends b → Covers (handedOut b) b x
   unfolding handedOut
-  handed-between i =
-      record {
-        above = ≈-≼-trans (doubleOf-exact (value (b .lo)) lower-exact) (i .above);
-        under = ≼-≈-trans (i .under) (≈-sym (doubleOf-exact (value (b .hi)) upper-exact));
-      }
+  handed-covers i =
+      let l = doubleOf-exact (value (b .lo)) lower-exact in
+      let u = doubleOf-exact (value (b .hi)) upper-exact in
+      record { lower-exact = l; upper-exact = u; above = ≈-≼-trans l (i .above); under = ≼-≈-trans (i .under) (≈-sym u) }
 
   -- ---- the tests, on f64s that are the bracket's ends
   module _ (e : Ends) (is : e ≡ handedOut b) where

@@ -1,23 +1,32 @@
--- What demand 3 says of a pair and of a density, by the equation itself at a level N: what an accepted one is held to, and when one is good
--- by more than the width of its brackets of w bits. Assumes nothing.
+-- What demands 2 and 3 say of an answer, by the equation itself at a level N: how its ends lie about the equation's value, what an accepted
+-- pair or density is held to, and when one is good by more than the width of its brackets of w bits. Assumes nothing.
 use Prim.Native.Nat.{ℕ}
 use mathlib.Core.Path.{_≡_}
 use mathlib.Core.Bool.{true}
 use mathlib.Core.List.{List}
 use lib.Ieee.{Float}
-use Rattle.exact.specs.Fraction.{Fraction, nat, _⊕_, _⊖_, _≼_, _≺_}
+use Rattle.exact.specs.Fraction.{Fraction, nat, _⊕_, _⊖_, _≼_, _≺_, _≈_}
 use Rattle.exact.specs.Ends.{width, absolute}
 use Rattle.sheet.specs.Number.{value}
 use Rattle.doubles.specs.Double.{exactOf}
 use Rattle.doubles.specs.Range.{acceptedTemperature, acceptedDensity, acceptedTarget, acceptedTolerance}
 use Rattle.term.specs.Sound.{soundTable}
 use Rattle.bracket.specs.declared.Bracket.{Bracket}
+use Rattle.verdict.specs.declared.Ends.{Ends}
 use Rattle.equation.specs.Rules.{pressure, stiffness, gibbsGap, targetGap, pressureGap}
 use Rattle.equation.specs.Itself.{pressureAt, stiffnessAt, gibbsGapAt}
 
 -- how far a bracket's ends lie apart
 unfoldable pub bracketWidth : Bracket → Fraction
 bracketWidth b = width (value (b .lo)) (value (b .hi))
+
+-- ---- ends handed out
+-- the two f64s are exactly the ends of the bracket b, and the number x lies between them
+pub record Covers (e : Ends) (b : Bracket) (x : Fraction) : Type 0 where
+  pub lower-exact : exactOf (e .lower) ≈ value (b .lo)
+  pub upper-exact : exactOf (e .upper) ≈ value (b .hi)
+  pub above : exactOf (e .lower) ≼ x
+  pub under : x ≼ exactOf (e .upper)
 
 -- ---- a pair
 -- at level N the pressures and the Gibbs energies differ by no more than their tolerances, and both phases push back when squeezed

@@ -4,9 +4,6 @@ use lib.IntN.{pos}
 use mathlib.Core.Bool.{false, not}
 use lib.Dec.{T}
 use lib.Ieee.{Float, fin, isNan}
-use Rattle.exact.specs.Fraction.{Fraction}
-use Rattle.exact.specs.Ends.{Within}
-use Rattle.doubles.specs.Double.{exactOf}
 use Rattle.verdict.specs.declared.Ends.{Ends}
 use Rattle.verdict.specs.declared.Refusal.{Refusal}
 use Rattle.verdict.specs.declared.Refusal.the-variants.{TableLength, BrokenTerm, Temperature, Density, Target, Tolerance, Sides, Ceiling}
@@ -91,7 +88,3 @@ Finite answer = Numbers (handed answer)
 
 abbrev pub SheetFinite : SheetAnswer → Type 0
 SheetFinite answer = Numbers (sheetPressure answer) × Numbers (sheetStiffness answer)
-
--- a number lies between two ends handed out, by their exact values
-abbrev pub Between : Ends → Fraction → Type 0
-Between ends x = Within (exactOf (ends .lower)) (exactOf (ends .upper)) x
