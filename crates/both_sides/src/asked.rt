@@ -1,0 +1,75 @@
+// One case through one public function of `verdict`. Its line: who is asked and the case's label, then the number, the place, and the ends
+// as 16 hexadecimal digits each.
+use libc::STDOUT_FILENO;
+use verdict::State;
+
+// A line's front, for a case that is about a table.
+pub fn named(who: &[u8], label: &[u8]) {
+    io::write_all(STDOUT_FILENO, who);
+    io::write_all(STDOUT_FILENO, b", ");
+    io::write_all(STDOUT_FILENO, label);
+    io::write_all(STDOUT_FILENO, b":");
+}
+
+// The same for a case that is about an f64, whose bits stand behind the label.
+pub fn valued(who: &[u8], label: &[u8], bits: u64) {
+    io::write_all(STDOUT_FILENO, who);
+    io::write_all(STDOUT_FILENO, b", ");
+    io::write_all(STDOUT_FILENO, label);
+    io::write_all(STDOUT_FILENO, b" (");
+    words::first(bits);
+    io::write_all(STDOUT_FILENO, b"):");
+}
+
+pub fn sheet(table: &[u8], temperature: f64, density: f64) {
+    let state = State {
+        temperature,
+        density,
+    };
+    let values = reading::of_sheet(verdict::state_sheet(table, state));
+    whole(values[0]);
+    whole(values[1]);
+    words::next(values[2]);
+    words::next(values[3]);
+    words::next(values[4]);
+    words::next(values[5]);
+    words::end_line();
+}
+
+pub fn density(table: &[u8], temperature: f64, density: f64, target: f64, tolerance: f64) {
+    let state = State {
+        temperature,
+        density,
+    };
+    let answer = verdict::density_check(table, state, target, tolerance);
+    check(reading::of_check(answer));
+}
+
+pub fn pair(
+    table: &[u8],
+    temperature: f64,
+    liquid: f64,
+    vapour: f64,
+    pressure_tolerance: f64,
+    gibbs_tolerance: f64,
+) {
+    let state = State {
+        temperature,
+        density: liquid,
+    };
+    let answer = verdict::pair_check(table, state, vapour, pressure_tolerance, gibbs_tolerance);
+    check(reading::of_check(answer));
+}
+
+fn check(values: [u64; 4]) {
+    whole(values[0]);
+    whole(values[1]);
+    words::next(values[2]);
+    words::next(values[3]);
+    words::end_line();
+}
+
+fn whole(n: u64) {
+    io::write_all(STDOUT_FILENO, b" ");
+    io::print_decimal(STDOUT_FILENO, n);
+}

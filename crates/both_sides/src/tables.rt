@@ -1,0 +1,78 @@
+// Tables of every length about the line, terms that just keep or just break a rule, and the ceiling of pressure.
+use crate::EASY;
+use crate::asked;
+
+pub fn lengths() {
+    let bytes = filled();
+    table(b"table of 9 bytes", &bytes[0..9]);
+    table(b"table of 576 bytes", &bytes[0..576]);
+    table(b"table of 0 bytes", &bytes[0..0]);
+    table(b"table of 8 bytes", &bytes[0..8]);
+    table(b"table of 10 bytes", &bytes[0..10]);
+    table(b"table of 577 bytes", &bytes[0..577]);
+    table(b"table of 585 bytes", &bytes[0..585]);
+}
+
+// The easy term, 65 times.
+fn filled() -> [u8; 585] {
+    let mut bytes = [0u8; 585];
+    let mut i: usize = 0;
+    while i < 585 {
+        bytes[i] = EASY[i % 9];
+        i += 1;
+    }
+    bytes
+}
+
+// One term with coefficient 10^-16 and d 1, but for what the label says; and the place of the first of two.
+pub fn terms() {
+    table(b"t 24", b"\x07\x00\x00\x00\x00\x00\x00\x00\x01");
+    table(b"t 25", b"\x07\x20\x00\x00\x00\x00\x00\x00\x01");
+    table(b"magnitude 10^17", b"\x04\x01\x63\x45\x78\x5d\x8a\x00\x00");
+    table(
+        b"magnitude 10^17 + 1",
+        b"\x04\x01\x63\x45\x78\x5d\x8a\x00\x01",
+    );
+    table(b"magnitude 1", b"\x04\x00\x00\x00\x00\x00\x00\x00\x01");
+    table(b"magnitude 0", b"\x04\x00\x00\x00\x00\x00\x00\x00\x00");
+    table(b"d 0", b"\x00\x00\x00\x00\x00\x00\x00\x00\x01");
+    table(
+        b"terms 2 and 3 broken",
+        b"\x04\x00\x00\x00\x00\x00\x00\x00\x01\x00\x00\x00\x00\x00\x00\x00\x00\x01\x04\x00\x00\x00\x00\x00\x00\x00\x00",
+    );
+}
+
+fn table(label: &[u8], bytes: &[u8]) {
+    asked::named(b"state sheet", label);
+    asked::sheet(bytes, 300.0, 1.0);
+    asked::named(b"density check", label);
+    asked::density(bytes, 300.0, 1.0, 0.0, 1000000.0);
+    asked::named(b"pair check", label);
+    asked::pair(bytes, 300.0, 322.125, 321.875, 1000000.0, 1000000.0);
+}
+
+// One term c 0, d 1, t 0 whose last unit takes the upper end of pressure from exactly 10^9 to the next sheet number.
+pub fn ceilings() {
+    ceiling(b"up to 10^9", b"\x04\x00\x03\x12\x4a\xf2\x1a\x85\x9a");
+    ceiling(b"up to 10^9 + 1/4", b"\x04\x00\x03\x12\x4a\xf2\x1a\x85\x9b");
+}
+
+fn ceiling(label: &[u8], bytes: &[u8]) {
+    asked::named(b"state sheet", label);
+    asked::sheet(bytes, 1250.0, 1288.0);
+    asked::named(b"density check", label);
+    asked::density(bytes, 1250.0, 1288.0, 1000000000.0, 1000000.0);
+    asked::named(b"pair check", label);
+    asked::pair(bytes, 1250.0, 1288.0, 1.0, 1000000.0, 1000000.0);
+}
+
+// The table is asked before the temperature.
+pub fn empty() {
+    let t = 0.0 / 0.0;
+    asked::named(b"state sheet", b"empty table, T NaN");
+    asked::sheet(b"", t, 1.0);
+    asked::named(b"density check", b"empty table, T NaN");
+    asked::density(b"", t, 1.0, 0.0, 1000000.0);
+    asked::named(b"pair check", b"empty table, T NaN");
+    asked::pair(b"", t, 322.125, 321.875, 1000000.0, 1000000.0);
+}

@@ -1,0 +1,197 @@
+"""The rows of 01's "Both sides of the line", through the three public functions, as the program both_sides writes them.
+
+    python3 -m second.tests.test_both_sides >crates/both_sides/stdout
+
+makes that program's stored output, from this file and the second program alone; the test holds the file to it, and rt
+holds the program to the file.  A line is who is asked, the case's label (with the bits of the f64 that it is about), the
+number, the place, and the ends' bits.  The order of the rows, a group each:
+
+    temperatures            state sheet, density check, pair check
+    densities               state sheet, density check, pair check as liquid, as vapour
+    tables by length        state sheet, density check, pair check
+    terms                   the same three
+    the ceiling             the same three
+    an empty table, T NaN   the same three
+    targets                 density check
+    tolerances              density check, pair check as pressure tolerance, as Gibbs tolerance
+    sides of 322            pair check
+    least gaps              density check
+    stiffness about zero    density check
+
+Each row also says which numbers 01 allows it, so that the second program can't be wrong alone.  Assumes nothing.
+"""
+
+import os
+
+from second import f64
+from second.tests.samples import INFINITY, NAN, NEGATIVE, ROOT, above, under
+from second.term import Term, packed
+from second.verdict import density_check, pair_check, state_sheet
+
+W = f64.word
+LEAST = 1  # the bits of 2^-1074
+WIDE = W(1e6)
+T, RHO, LIQUID, VAPOUR = W(300.0), W(1.0), W(322.125), W(321.875)  # accepted with EASY, all of them
+
+EASY = packed(Term(0, 1, 0, 0, 10 ** 13))  # small and positive
+NONE = packed(Term(0, 1, 0, 1, 10 ** 16))  # coefficient -1: no pressure at density 322
+STIFF = packed(Term(0, 1, 0, 1, 3 * 10 ** 16)) + packed(Term(0, 2, 0, 0, 10 ** 16))  # nor here, but it pushes back
+CEILING = bytes.fromhex("040003124af21a859a")  # at 1250 K and 1288 kg/m3 the upper end of pressure is 10^9
+OVER = bytes.fromhex("040003124af21a859b")  # there it is the next sheet number
+
+ANSWERED = (0, 9, 10, 11)  # the equation was worked out
+
+
+def line(who, label, answer, allowed):
+    assert answer.number in allowed, (who, label, answer)
+    ends = " ".join("%016x" % end for end in answer.ends)
+    return "%s, %s: %d %d %s" % (who, label, answer.number, answer.place, ends)
+
+
+def valued(label, word):
+    return "%s (%016x)" % (label, word)
+
+
+def temperatures():
+    for label, t, allowed in (
+            ("T 273", W(273.0), (0,)),
+            ("T next under 273", under(W(273.0)), (3,)),
+            ("T 1273", W(1273.0), (0,)),
+            ("T next above 1273", above(W(1273.0)), (3,)),
+            ("T NaN", NAN, (3,)),
+            ("T infinity", INFINITY, (3,)),
+            ("T -infinity", INFINITY | NEGATIVE, (3,))):
+        label = valued(label, t)
+        yield line("state sheet", label, state_sheet(EASY, t, RHO), allowed)
+        yield line("density check", label, density_check(EASY, t, RHO, 0, WIDE), allowed)
+        yield line("pair check", label, pair_check(EASY, t, LIQUID, VAPOUR, WIDE, WIDE), allowed)
+
+
+def densities():
+    for label, rho, allowed, liquid, vapour in (
+            ("density 1/1024", W(2.0 ** -10), ANSWERED, (7,), ANSWERED),
+            ("density next under 1/1024", under(W(2.0 ** -10)), (4,), (4,), (4,)),
+            ("density 1288", W(1288.0), ANSWERED, ANSWERED, (7,)),
+            ("density next above 1288", above(W(1288.0)), (4,), (4,), (4,)),
+            ("density NaN", NAN, (4,), (4,), (4,)),
+            ("density infinity", INFINITY, (4,), (4,), (4,)),
+            ("density -infinity", INFINITY | NEGATIVE, (4,), (4,), (4,))):
+        label = valued(label, rho)
+        yield line("state sheet", label, state_sheet(EASY, T, rho), allowed)
+        yield line("density check", label, density_check(EASY, T, rho, 0, WIDE), allowed)
+        yield line("pair check's liquid", label, pair_check(EASY, T, rho, VAPOUR, WIDE, WIDE), liquid)
+        yield line("pair check's vapour", label, pair_check(EASY, T, LIQUID, rho, WIDE, WIDE), vapour)
+
+
+def three(label, table, allowed, t=T, rho=RHO, target=0, liquid=LIQUID, vapour=VAPOUR, pair=None):
+    yield line("state sheet", label, state_sheet(table, t, rho), allowed)
+    yield line("density check", label, density_check(table, t, rho, target, WIDE), allowed)
+    yield line("pair check", label, pair_check(table, t, liquid, vapour, WIDE, WIDE), pair or allowed)
+
+
+def tables():
+    for size, number in ((9, 0), (576, 0), (0, 1), (8, 1), (10, 1), (577, 1), (585, 1)):
+        yield from three("table of %d bytes" % size, (EASY * 65)[:size], (number,))
+
+
+def terms():
+    least = Term(0, 1, 0, 0, 1)
+    for label, term, number in (
+            ("t 24", least._replace(t=24), 0),
+            ("t 25", least._replace(t=25), 2),
+            ("magnitude 10^17", least._replace(magnitude=10 ** 17), 0),
+            ("magnitude 10^17 + 1", least._replace(magnitude=10 ** 17 + 1), 2),
+            ("magnitude 1", least, 0),
+            ("magnitude 0", least._replace(magnitude=0), 2),
+            ("d 0", least._replace(d=0), 2)):
+        yield from three(label, packed(term), (number,))
+    broken = packed(least._replace(d=0)) + packed(least._replace(magnitude=0))
+    yield from three("terms 2 and 3 broken", packed(least) + broken, (2,))
+
+
+def ceilings():
+    state = dict(t=W(1250.0), rho=W(1288.0), target=W(1e9), liquid=W(1288.0), vapour=RHO)
+    yield from three("up to 10^9", CEILING, (0,), **state, pair=(9,))
+    yield from three("up to 10^9 + 1/4", OVER, (8,), **state)
+
+
+def empty():
+    yield from three("empty table, T NaN", b"", (1,), t=NAN)
+
+
+def targets():
+    for label, target, allowed in (
+            ("target 0", W(0.0), (0,)),
+            ("target -0", NEGATIVE, (0,)),
+            ("target next above 0", LEAST, (9,)),
+            ("target next under 0", NEGATIVE | LEAST, (5,)),
+            ("target -1", W(-1.0), (5,)),
+            ("target 10^9", W(1e9), (9,)),
+            ("target next above 10^9", above(W(1e9)), (5,)),
+            ("target NaN", NAN, (5,)),
+            ("target infinity", INFINITY, (5,)),
+            ("target -infinity", INFINITY | NEGATIVE, (5,))):
+        yield line("density check", valued(label, target), density_check(STIFF, T, W(322.0), target, 0), allowed)
+
+
+def tolerances():
+    for label, tolerance, numbers in (
+            ("tolerance 0", W(0.0), (0, 9, 10)),
+            ("tolerance -0", NEGATIVE, (0, 9, 10)),
+            ("tolerance next above 0", LEAST, (0, 9, 10)),
+            ("tolerance next under 0", NEGATIVE | LEAST, (6, 6, 6)),
+            ("tolerance -1", W(-1.0), (6, 6, 6)),
+            ("tolerance 10^6", WIDE, (0, 0, 0)),
+            ("tolerance next above 10^6", above(WIDE), (6, 6, 6)),
+            ("tolerance NaN", NAN, (6, 6, 6)),
+            ("tolerance infinity", INFINITY, (6, 6, 6)),
+            ("tolerance -infinity", INFINITY | NEGATIVE, (6, 6, 6))):
+        label = valued(label, tolerance)
+        answers = (density_check(STIFF, T, W(322.0), 0, tolerance),
+                   pair_check(EASY, T, LIQUID, VAPOUR, tolerance, WIDE),
+                   pair_check(EASY, T, LIQUID, VAPOUR, WIDE, tolerance))
+        for who, answer, number in zip(("density check", "pair check's pressure", "pair check's Gibbs energy"),
+                                       answers, numbers):
+            yield line(who, label, answer, (number,))
+
+
+def sides():
+    edge = W(322.0)
+    for label, rho, number in (("liquid 322", edge, 7), ("liquid next above 322", above(edge), 0)):
+        yield line("pair check", valued(label, rho), pair_check(EASY, T, rho, VAPOUR, WIDE, WIDE), (number,))
+    for label, rho, number in (("vapour 322", edge, 7), ("vapour next under 322", under(edge), 0)):
+        yield line("pair check", valued(label, rho), pair_check(EASY, T, LIQUID, rho, WIDE, WIDE), (number,))
+
+
+def least_gaps():
+    for label, target, tolerance, number in (
+            ("gap of 0, tolerance 0", 0, 0, 11),
+            ("gap of -2^-1074, tolerance 0", LEAST, 0, 9),
+            ("gap of -2^-1074, tolerance 2^-1074", LEAST, LEAST, 11)):
+        yield line("density check", label, density_check(NONE, T, W(322.0), target, tolerance), (number,))
+
+
+def stiffnesses():
+    """About a coefficient of -1/2.  The last magnitude is the greatest whose bracket does not reach it."""
+    for label, magnitude, number in (
+            ("stiffness 0", 5 * 10 ** 15, 11),
+            ("stiffness down to 0", 4999999998835847, 11),
+            ("stiffness above 0", 4999999998835846, 0)):
+        table = packed(Term(0, 1, 0, 1, magnitude))
+        yield line("density check", label, density_check(table, T, W(322.0), W(22e6), WIDE), (number,))
+
+
+GROUPS = (temperatures, densities, tables, terms, ceilings, empty, targets, tolerances, sides, least_gaps, stiffnesses)
+
+
+def text():
+    return "".join(row + "\n" for group in GROUPS for row in group())
+
+
+def test_stored_output():
+    with open(os.path.join(ROOT, "crates", "both_sides", "stdout")) as file:
+        assert file.read() == text()
+
+
+if __name__ == "__main__":
+    print(text(), end="")
