@@ -15,6 +15,11 @@ first-line : lineOf 1 3 0 0 0 ≡ 49 ∷ 32 ∷ 51 ∷ 32 ∷ 48 ∷ 32 ∷ zero
 unfolding glyphOf digitsOf decimalOf hexOf lineOf zeroEnds
 first-line = refl
 
+-- 2 7 0
+middle-line : lineOf 2 7 0 0 0 ≡ 50 ∷ 32 ∷ 55 ∷ 32 ∷ 48 ∷ 32 ∷ zeroEnds
+unfolding glyphOf digitsOf decimalOf hexOf lineOf zeroEnds
+middle-line = refl
+
 -- 3 12 0
 last-line : lineOf 3 12 0 0 0 ≡ 51 ∷ 32 ∷ 49 ∷ 50 ∷ 32 ∷ 48 ∷ 32 ∷ zeroEnds
 unfolding glyphOf digitsOf decimalOf hexOf lineOf zeroEnds
