@@ -1,5 +1,5 @@
 -- The bit pattern of an f64 and its exact value: the sign, the exponent's field and the digits below the leading one. Assumes nothing.
-use Prim.Native.Nat.{ℕ, suc, _+_, _-_, _*_, _/_, _%_, _^_, _≤_, _<_}
+use Prim.Native.Nat.{ℕ, zero, suc, _+_, _-_, _*_, _/_, _%_, _^_, _≤_, _<_}
 use mathlib.Core.Path.{_≡_, refl, sym, subst}
 use mathlib.Core.Logic.{inl, inr}
 use mathlib.Core.Bool.{Bool, true, false, not, cond}
@@ -8,8 +8,8 @@ use native.Mathlib.Decide.{decLe}
 use native.Mathlib.Nat.{eq-or-lt-of-le}
 use lib.Dec.{T, leb, eqb, eqb→eq, not-T}
 use lib.Pow.{pow-add, pow-pos}
-use lib.Ieee.{Float, nan, inf, fin, up, down, binary64, odd, ofFields, ofBits, toBits, fits, isNan}
-use lib.Ieee.Bits.{ofBits-toBits, cond-no}
+use lib.Ieee.{Float, nan, inf, fin, up, down, binary64, odd, ofFields, ofBits, toBits, fits, isNan, nanBits}
+use lib.Ieee.Bits.{ofBits-toBits, cond-no, nanBits-is}
 use lib.Ieee.Exact.{HasValue, odd-sign}
 use lib.Ieee.Fits.{down-pos}
 use lib.Ieee.Scale.{finite}
@@ -124,3 +124,12 @@ in-units x holds h = subst Units (ofBits-toBits binary64 x holds) (go (toBits bi
                 value = normal-pattern b (fieldOf b - 1) (omega arith) (omega arith);
               }
         ]
+
+-- a pattern whose exponent's field is not all ones is a finite f64's, so no NaN's
+pub field-finite : (b f : ℕ) → fieldOf b ≡ f → f ≤ 2046 → T (finite (ofBits binary64 b))
+field-finite b zero e l = value-finite (ofBits binary64 b) (signOf b) (digitsOf b * 2 ^ 0) (2 ^ 1074) (low-pattern b e)
+field-finite b (suc y) e l =
+    value-finite (ofBits binary64 b) (signOf b) ((4503599627370496 + digitsOf b) * 2 ^ y) (2 ^ 1074) (normal-pattern b y e (omega arith))
+
+pub number-pattern : (b : ℕ) → fieldOf b ≤ 2046 → T (not (nanBits binary64 b))
+number-pattern b l = rw (nanBits-is binary64 b) (no-nan (ofBits binary64 b) (field-finite b (fieldOf b) refl l))

@@ -1,3 +1,2 @@
 -- What the proofs of the program share. Assumes nothing.
 pub mod Given
-pub mod Pattern

@@ -1,6 +1,6 @@
 -- `equation_lines::double` is safe: what it makes an f64 of is no NaN. Assumes nothing.
 use borrow.Author.Needs.{needs}
-use Rattle.equation_lines.proofs.Pattern.{number-pattern}
+use Rattle.doubles.proofs.Pattern.{number-pattern}
 use Rattle.equation_lines.proofs.double.Statement.{statement}
 use Rattle.equation_lines.proofs.double.Tie as tie
 

@@ -1,21 +1,12 @@
 -- `series_lines::density` meets its contract: a pattern below the infinity's is no NaN's. Assumes nothing.
-use mathlib.Core.Path.{sym, ap, _∙_, subst}
-use mathlib.Core.Bool.{not}
-use Prim.Native.Nat.{ℕ, _%_, _<_}
 use native.Mathlib.Omega.{arith}
 use borrow.Author.Needs.{needs}
-use borrow.Author.Tests.{le-ltb}
-use lib.Dec.{T}
-use lib.Ieee.{binary64, nanBits}
-use lib.Ieee.Bits.{nanBits-above}
+use Rattle.doubles.proofs.Pattern.{number-pattern}
 use Rattle.series_lines.proofs.density.Statement.{statement}
 use Rattle.series_lines.proofs.density.Tie as tie
 
-number-pattern : (w : ℕ) → w < 9218868437227405312 → T (not (nanBits binary64 w))
-number-pattern w h = subst T (sym (ap not (nanBits-above binary64 w ∙ le-ltb 9218868437227405312 (w % 9223372036854775808) (omega arith)))) tt
-
 float-from-bits-result : tie.Need-float-from-bits-result
-float-from-bits-result c = number-pattern (c .before .args .w) (c .if1 .taken)
+float-from-bits-result c = number-pattern (c .before .args .w) (let h = c .if1 .taken in omega arith)
 
 returns : tie.Need-returns
 returns c = search needs
