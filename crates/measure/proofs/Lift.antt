@@ -1,6 +1,6 @@
 -- From numbers to brackets: a law about every two ends is one about the bracket of the rule. Assumes nothing.
 use mathlib.Core.Bool.{Bool, true, false}
-use Prim.Native.Nat.{ℕ, suc}
+use Prim.Native.Nat.{ℕ}
 use Rattle.exact.specs.Fraction.{Fraction}
 use Rattle.sheet.specs.Number.{value}
 use Rattle.sheet.specs.Round.{round}

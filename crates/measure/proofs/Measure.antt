@@ -1,9 +1,10 @@
--- The measures go through the operations and through rounding. Laws never subtract: they take inequalities between exponents. Assumes nothing.
+-- The measures through the operations: product, quotient, sum, difference and rounding, over the count of bits suc v. Every range is shown by
+-- these. Laws never subtract: they take inequalities between exponents. Assumes nothing.
 use mathlib.Core.Path.{_≡_, refl, sym, ap, _∙_, subst}
 use mathlib.Core.Logic.{_⊎_, inl, inr, ⊎-elim}
 use mathlib.Core.Bool.{Bool, true, false, not, xor}
 use Prim.Native.Nat.{ℕ, zero, suc, _+_, _-_, _*_, _^_, _≤_, _<_}
-use native.Mathlib.Nat.{le-antisymm, mul-lt-mul-of-pos-right, le-trans, le-refl, le-of-eq, mul-le-mul, mul-le-mul-left, mul-le-mul-right, le-of-mul-le-mul-right, mul-pos, zero-mul, mul-zero, one-mul, le-dest}
+use native.Mathlib.Nat.{le-antisymm, mul-lt-mul-of-pos-right, le-trans, mul-le-mul, mul-le-mul-left, mul-le-mul-right, le-of-mul-le-mul-right, mul-pos, zero-mul, mul-zero, one-mul, le-dest}
 use native.Mathlib.Omega.{arith}
 use lib.Pow.{pow-add, pow-mono, pow-pos}
 use Rattle.exact.specs.Fraction.{Fraction, nat, parts, top, bottom, negate, _⊕_, _⊖_, _⊗_, _⊘_, _≼_, _≺_, _≈_}
@@ -11,13 +12,14 @@ use Rattle.exact.specs.Fraction.Order.{≼-trans, ≼-≈-trans, ≼-not-≺, �
 use Rattle.exact.specs.Fraction.Sum.{⊕-cong, ⊖-is, negate-⊖, negate-cong, ⊕-comm}
 use Rattle.exact.specs.Fraction.Product.{⊗-cong}
 use Rattle.exact.specs.Fraction.Quotient.{⊘-cong}
-use Rattle.exact.specs.Fraction.Parts.{≼-negative, as-parts, bottom-pos, ≼-parts, parts-nonneg, parts-nat, parts-zero, parts-nonpos, parts-pos, parts-⊗, parts-⊘, parts-⊕, parts-⊕-less, parts-negate, parts-≈, parts-scale}
+use Rattle.exact.specs.Fraction.Parts.{≼-negative, as-parts, bottom-pos, ≼-parts, parts-nonneg, parts-nat, parts-zero, parts-nonpos, parts-pos, parts-⊗, parts-⊘, parts-⊕, parts-⊕-less, parts-negate, parts-≈}
 use Rattle.sheet.specs.declared.Sheet.{Sheet}
-use Rattle.sheet.specs.Magnitude.{Magnitude, units, roundMag, Fit}
-use Rattle.sheet.specs.Number.{bias, value, signed}
+use Rattle.sheet.specs.Magnitude.{Magnitude, units, roundMag}
+use Rattle.sheet.specs.Number.{bias, value}
 use Rattle.sheet.specs.Round.{away, round}
 use Rattle.sheet.proofs.Gaps.{zero-or-pos, le-or-lt, pow-le-split}
-use Rattle.sheet.proofs.Rounding.{keep-low, keep-high, round-fit, round-zero, round-ratio}
+use Rattle.sheet.proofs.Measures.{place-low}
+use Rattle.sheet.proofs.Rounding.{keep-low, keep-high, round-fit, round-zero}
 use Rattle.sheet.proofs.Signed.{round-parts, signed-value}
 use Rattle.measure.specs.Measure.{Sized, Fine, Digited}
 
@@ -34,9 +36,6 @@ sized-cong e s = record { neg = s .neg; num = s .num; den = s .den; is = ≈-tra
 
 pub fine-cong : {g h : ℕ} {x y : Fraction} → x ≈ y → Fine g h x → Fine g h y
 fine-cong e s = record { neg = s .neg; times = s .times; is = ≈-trans (≈-sym e) (s .is); most = s .most }
-
-pub digited-cong : {v l h : ℕ} {x y : Fraction} → x ≈ y → Digited v l h x → Digited v l h y
-digited-cong e s = record { neg = s .neg; m = s .m; e = s .e; is = ≈-trans (≈-sym e) (s .is); few = s .few; least = s .least; most = s .most }
 
 -- ---- products
 
@@ -313,16 +312,6 @@ fine-sized {g} {h} s =
     go (inl z) = inl (rw (z, zero-mul))
     go (inr k) = inr (mul-le-mul-right (2 ^ bias) (omega (arith, mul-le-mul-right (2 ^ g) k)))
 
--- the place of few digits is not far below the size
-pub place-of : (v l m e : ℕ) → m < 2 ^ suc v → 2 ^ l ≤ m * 2 ^ e → l ≤ v + e
-place-of v l m e few h = ⊎-elim (λ k. k) (λ k. absurd (wrong k)) (le-or-lt l (v + e))
-  where
-    wrong : v + e < l → ⊥
-    wrong k =
-        let p = mul-lt-mul-of-pos-right few (pow-pos e) in
-        let q : 2 ^ suc v * 2 ^ e ≤ 2 ^ l = rw (← pow-add 2 (suc v) e) (pow-mono (omega arith)) in
-        omega arith
-
 pub digited-fine : {v g l h : ℕ} {x : Fraction} → v + g ≤ l → Digited v l h x → Fine g h x
 digited-fine {v} {g} {l} {h} {x} p s = go (s .least)
   where
@@ -330,7 +319,7 @@ digited-fine {v} {g} {l} {h} {x} p s = go (s .least)
     go (inl z) =
         record { neg = s .neg; times = 0; is = rw (z, zero-mul, ← zero-mul (2 ^ g)) at (s .is); most = rw zero-mul (omega arith) }
     go (inr k) =
-        let j = pow-le-split g (s .e) (omega (arith, place-of v l (s .m) (s .e) (s .few) k)) in
+        let j = pow-le-split g (s .e) (omega (arith, place-low v l (s .m) (s .e) (s .few) k)) in
         let e : s .m * 2 ^ s .e ≡ s .m * 2 ^ j .0 * 2 ^ g = omega (arith, ap (λ (n : ℕ). s .m * n) (j .1)) in
         record { neg = s .neg; times = s .m * 2 ^ j .0; is = rw e at (s .is); most = rw e at (s .most) }
 

@@ -1,31 +1,31 @@
--- The measures of brackets: through each rule, over the count of bits suc v, and what they say of the sheet numbers themselves: the exponents'
+-- The measures through the rules of brackets, over the count of bits suc v, and what they say of the sheet numbers themselves: the exponents'
 -- range and that an end is exactly an f64. Assumes nothing.
-use mathlib.Core.Path.{_≡_, refl, sym, ap, _∙_, subst}
-use mathlib.Core.Logic.{_⊎_, inl, inr, ⊎-elim}
+use mathlib.Core.Path.{_≡_, refl, sym, _∙_, subst}
+use mathlib.Core.Logic.{_⊎_, inl, inr}
 use mathlib.Core.Bool.{Bool, true, false}
-use Prim.Native.Nat.{ℕ, zero, suc, _+_, _-_, _*_, _^_, _≤_, _<_, _∣_}
-use native.Mathlib.Nat.{le-trans, mul-le-mul-right, le-of-mul-le-mul-right, eq-of-mul-eq-mul-right, zero-mul, one-mul, mul-pos, lt-of-le-of-lt, dvd-mul-left-of-dvd, dvd-mul-right}
+use Prim.Native.Nat.{ℕ, zero, suc, _+_, _*_, _^_, _≤_, _<_}
+use native.Mathlib.Nat.{le-refl, le-of-mul-le-mul-right, eq-of-mul-eq-mul-right, zero-mul, one-mul}
 use native.Mathlib.Omega.{arith}
-use lib.Pow.{pow-add, pow-lt, pow-mono, pow-pos}
-use Rattle.exact.specs.Fraction.{Fraction, nat, parts, _⊕_, _⊖_, _⊗_, _⊘_, _≼_, _≺_, _≈_}
+use lib.Pow.{pow-mono, pow-pos}
+use Rattle.exact.specs.Fraction.{Fraction, nat, parts, _⊕_, _⊖_, _⊗_, _⊘_, _≺_, _≈_}
 use Rattle.exact.specs.Fraction.Parts.{nat-pos, ≈-parts, ≼-parts-zero}
 use Rattle.exact.specs.Fraction.Product.{⊗-pos}
 use Rattle.exact.specs.Fraction.Quotient.{⊘-pos}
 use Rattle.exact.specs.Fraction.Order.{≈→≼, ≈-sym}
 use Rattle.sheet.specs.declared.Sheet.{Sheet}
-use Rattle.sheet.specs.Number.{bias, value, plainZero, Normal, Digits, Spelled}
+use Rattle.sheet.specs.Number.{bias, value, Spelled}
 use Rattle.sheet.specs.Round.{round}
-use Rattle.sheet.specs.Range.{extent, Grain, Exponent, Within, InRange, Doubled}
-use Rattle.sheet.proofs.Gaps.{zero-or-pos, le-or-lt, pow-le-split}
+use Rattle.sheet.specs.Range.{extent, Within, Doubled}
 use Rattle.sheet.proofs.Laws.{round-spelled}
+use Rattle.sheet.proofs.Measures.{span-within, grain-shift, grain-doubled}
 use Rattle.bracket.specs.declared.Bracket.{Bracket}
-use Rattle.bracket.specs.Span.{Span, whole, Each, Ordered, over}
+use Rattle.bracket.specs.Span.{Span, whole, Each, Ordered}
 use Rattle.bracket.specs.Rules.{ends, rounded, given, plus, minus, times, divided, power}
 use Rattle.bracket.specs.Held.{Ends, Held}
 use Rattle.bracket.proofs.Inclusion.{rounded-ordered}
 use Rattle.measure.specs.Measure.{Sized, Fine, Digited}
 use Rattle.measure.proofs.Lift.{each-map, over-both, rounded-both}
-use Rattle.measure.proofs.Measure.{⊗-sized, ⊘-sized, ⊕-fine, ⊖-fine, round-sized, round-fine, digited-sized, fine-sized, nat-sized, near-plus, near-minus, near-less, place-of, round-pos, whole-fine}
+use Rattle.measure.proofs.Measure.{⊗-sized, ⊘-sized, ⊕-fine, ⊖-fine, round-sized, round-fine, digited-sized, fine-sized, nat-sized, near-plus, near-minus, near-less, round-pos, whole-fine}
 
 -- a rounded sum: as fine as its addends, and of few digits
 pub record Summed (v g h : ℕ) (x : Fraction) : Type 0 where
@@ -127,9 +127,6 @@ module _ (v : ℕ) where
 
 -- ---- what the measures say of the sheet numbers
 
-pow-back : (a b : ℕ) → 2 ^ a ≤ 2 ^ b → a ≤ b
-pow-back a b h = ⊎-elim (λ k. k) (λ (k : b < a). absurd (let p = pow-mono {i = suc b} {j = a} k in let q = pow-pos b in omega arith)) (le-or-lt a b)
-
 extent-of : (s : Sheet) (n : Bool) (a b : ℕ) → 0 < b → value s ≈ parts n a b → extent s * b ≡ a * 2 ^ bias
 unfolding value
 extent-of s n a b pos e = go (s .neg) n e
@@ -160,42 +157,16 @@ module _ {l h : ℕ} (s : Sheet) (d : Sized l h (value s)) where
   extent-most = le-of-mul-le-mul-right {k = d .den} (rw cross (d .most)) (d .some)
 
   -- the one spelling, and its exponent
-  module _ {v lo hi : ℕ} (spelt : Spelled v s) (full : v ≤ l) (low : bias + v ≤ l + lo) (high : h ≤ v + bias + hi) where
-    within-none : extent s ≡ 0 → Within v lo hi s
-    within-none z = record { normal = inl zeroes; exponent = inl zeroes }
-      where
-        no-digits : s .m ≡ 0
-        no-digits = eq-of-mul-eq-mul-right (2 ^ s .e) (pow-pos (s .e)) (s .m) 0 (z ∙ sym (zero-mul (2 ^ s .e)))
-
-        no-place : s .e ≡ 0
-        no-place = ⊎-elim (λ k. k) (λ (k : 0 < s .e). absurd (let f = spelt .fit .full k in let g = no-digits in let p = pow-pos v in omega arith)) (zero-or-pos (s .e))
-
-        zeroes : s ≡ plainZero
-        zeroes = λ i. record { neg = spelt .plain no-digits i; m = no-digits i; e = no-place i }
-
-    within-some : 2 ^ l ≤ extent s → Within v lo hi s
-    within-some k =
-        let p = place-of v l (s .m) (s .e) (spelt .fit .small) k in
-        record { normal = inr (record { low = digits; high = spelt .fit .small }); exponent = inr (omega arith, let q = reach in omega arith) }
-      where
-        digits : 2 ^ v ≤ s .m
-        digits = ⊎-elim (λ (z : s .e ≡ 0). le-trans (pow-mono full) (let k' : 2 ^ l ≤ s .m * 2 ^ 0 = subst (λ (e : ℕ). 2 ^ l ≤ s .m * 2 ^ e) z k in omega arith)) (λ p. spelt .fit .full p) (zero-or-pos (s .e))
-
-        reach : v + s .e ≤ h
-        reach = pow-back (v + s .e) h (rw pow-add (le-trans (mul-le-mul-right (2 ^ s .e) digits) extent-most))
-
-    pub within-of : Within v lo hi s
-    within-of = ⊎-elim within-none within-some extent-least
+  pub within-of : {v lo hi : ℕ} → Spelled v s → v ≤ l → bias + v ≤ l + lo → h ≤ v + bias + hi → Within v lo hi s
+  within-of {v} {lo} {hi} spelt full low high =
+      span-within v lo hi l h s spelt (record { least = extent-least; most = extent-most }) full low (omega arith)
 
 -- the f64 of exactly that value
 pub doubled-of : {g h : ℕ} (s : Sheet) → Fine g h (value s) → bias ≤ g + 1074 → h < 1024 + bias → Doubled s
-doubled-of {g} {h} s d p q = record { fine = record { divides = rw same (dvd-mul-left-of-dvd _ part (d .times)) }; small = rw same (lt-of-le-of-lt (d .most) (pow-lt q)) }
+doubled-of {g} {h} s d p q = grain-doubled g h s (rw same (grain-shift g (d .times) g (le-refl g))) (rw same (d .most)) p q
   where
     same : extent s ≡ d .times * 2 ^ g
     same = eq-of-mul-eq-mul-right (2 ^ bias) (pow-pos bias) (extent s) (d .times * 2 ^ g) (extent-of s (d .neg) (d .times * 2 ^ g) (2 ^ bias) (pow-pos bias) (d .is))
-
-    part : 2 ^ (bias - 1074) ∣ 2 ^ g
-    part = let j = pow-le-split (bias - 1074) g (omega arith) in rw (j .1) (dvd-mul-right _ _)
 
 -- ---- brackets
 

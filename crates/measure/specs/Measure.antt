@@ -1,5 +1,5 @@
--- How large an exact number is and how fine, in units of 2^-bias: the measures by which the range of every bracket is shown. They speak of the
--- size, never of the sign. Assumes nothing.
+-- How large an exact number is and how fine, in units of 2^-bias: the measures that go through the operations, by which the range of every
+-- bracket is shown; there are no others. They speak of the size, never of the sign. Assumes nothing.
 use mathlib.Core.Path.{_≡_}
 use mathlib.Core.Logic.{_⊎_}
 use mathlib.Core.Bool.{Bool}

@@ -14,7 +14,7 @@ use Rattle.exact.specs.Fraction.Quotient.{⊘-cong, ⊘-mono-left, zero-⊘, �
 use Rattle.exact.specs.Fraction.Parts.{nat-pos}
 use Rattle.sheet.specs.Number.{plainZero}
 use Rattle.sheet.specs.Round.{round, down}
-use Rattle.sheet.proofs.Laws.{round-resp, round-value}
+use Rattle.sheet.proofs.Laws.{round-nought, round-resp}
 use Rattle.sheet.proofs.Cases.{P1-down, P1-up}
 use Rattle.doubles.specs.Ratio.{ratioExponent, largestUpTo}
 use Rattle.bracket.specs.declared.Bracket.{Bracket}
@@ -24,7 +24,7 @@ use Rattle.bracket.proofs.Operands.{given-whole}
 use Rattle.bracket.proofs.Same.{≃-refl, rounded-≃}
 use Rattle.series.specs.Exponential.{expTerm, expSum, expTotal, expneg}
 use Rattle.series.specs.Logarithm.{lnPower, lnQuotient, lnSum, lnTotal, lnSeries, lnTwo, ratioR, ratioZ, lnScaled, lnRatio}
-use Rattle.series.proofs.Kept.{over-both, zero-spelled, zero-value}
+use Rattle.measure.proofs.Lift.{over-both}
 
 -- an operation whose results over the ends are all c gives the bracket of c
 result : (v : ℕ) {c : Fraction} {P Q : Fraction → Type 0} (f : Fraction → Fraction → Fraction) {A B : Span} → ((x y : Fraction) → P x → Q y → f x y ≈ c) → Each P A → Each Q B
@@ -182,7 +182,7 @@ unfolding rounded
 P9 = exponential-at-zero 31 ∙ (λ i. record { lo = P1-down i; hi = P1-up i })
 
 no-sheet : (up : Bool) → round up 32 (nat 0) ≡ plainZero
-no-sheet up = round-resp up 31 (≈-sym zero-value) ∙ round-value up 31 plainZero (zero-spelled 31)
+no-sheet up = round-nought up 31 (≈-refl (nat 0))
 
 pub P10 : lnRatio 32 (nat 322) (nat 322) ≡ record { lo = plainZero; hi = plainZero }
 unfolding rounded

@@ -17,7 +17,8 @@ use Rattle.sheet.proofs.Laws.{round-spelled}
 use Rattle.bracket.specs.Span.{point}
 use Rattle.bracket.specs.Rules.{rounded}
 use Rattle.series.proofs.Short.{short, unit, low-short, high-short, low-unit, high-unit}
-use Rattle.series.proofs.Fits.{full, value-least}
+use Rattle.sheet.proofs.Measures.{full}
+use Rattle.series.proofs.Fits.{value-least}
 
 unfoldable pub κ : Fraction
 κ = parts false 14 13

@@ -18,7 +18,8 @@ use Rattle.bracket.proofs.Within.{in-ordered, in-point}
 use Rattle.sheet.specs.Number.{value}
 use Rattle.bracket.specs.Rules.{ends, addlast, times}
 use Rattle.bracket.proofs.Inclusion.{plus-in, times-in, divided-in, given-in, combined-ordered, given-ordered}
-use Rattle.series.proofs.Kept.{rounded-sign, over-both}
+use Rattle.bracket.proofs.Kept.{rounded-sign}
+use Rattle.measure.proofs.Lift.{over-both}
 use Rattle.series.proofs.Short.{low-one}
 use Rattle.series.specs.Exponential.{expTerm, expSum, expTotal, expneg}
 use Rattle.series.proofs.Between.{between}

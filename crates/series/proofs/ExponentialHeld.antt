@@ -12,7 +12,7 @@ use Rattle.series.specs.Exponential.{expTerm, expSum, expTotal, expneg}
 use Rattle.bracket.specs.Held.{Ends, Held}
 use Rattle.sheet.proofs.Laws.{round-spelled}
 use Rattle.series.proofs.Fits.{each-held}
-use Rattle.series.proofs.Kept.{rounded-spelled}
+use Rattle.bracket.proofs.Kept.{rounded-spelled}
 use Rattle.series.proofs.Short.{bias-room}
 use Rattle.bracket.proofs.Corners.{over-ordered}
 use Rattle.measure.proofs.Sizes.{plus-sized, positive-sized, held-of}

@@ -1,19 +1,17 @@
 -- What the order says of a sheet number's digits and size, and what the measures say of a bracket at 32 bits. Assumes nothing.
-use mathlib.Core.Path.{_≡_, subst}
+use mathlib.Core.Path.{_≡_}
 use mathlib.Core.Bool.{false}
-use mathlib.Core.Logic.{inr, ⊎-elim}
+use mathlib.Core.Logic.{inr}
 use Prim.Native.Nat.{ℕ, _+_, _*_, _^_, _≤_}
-use native.Mathlib.Nat.{le-trans, le-of-mul-le-mul-right}
+use native.Mathlib.Nat.{le-of-mul-le-mul-right}
 use native.Mathlib.Omega.{arith}
-use lib.Pow.{pow-pos, pow-mono}
+use lib.Pow.{pow-pos}
 use Rattle.exact.specs.Fraction.{_≼_}
 use Rattle.exact.specs.Fraction.Order.{≺-≼-trans}
 use Rattle.exact.specs.Fraction.Parts.{≼-parts}
 use Rattle.sheet.specs.declared.Sheet.{Sheet}
-use Rattle.sheet.specs.Magnitude.{Fit}
 use Rattle.sheet.specs.Number.{bias, value, Spelled}
 use Rattle.sheet.specs.Range.{extent, Span as Size}
-use Rattle.sheet.proofs.Gaps.{zero-or-pos}
 use Rattle.sheet.proofs.Operations.{above-zero}
 use Rattle.bracket.specs.declared.Bracket.{Bracket}
 use Rattle.bracket.specs.Span.{Ordered, Each}
@@ -23,15 +21,6 @@ use Rattle.bracket.specs.Rules.{ends}
 use Rattle.bracket.specs.Held.{Ends, Held}
 use Rattle.series.proofs.Short.{short, unit}
 use Rattle.series.proofs.Units.{unit-pos}
-
--- ---- a number of at least 2^v units has all its digits
-pub full : (v m e l : ℕ) → Fit v m e → 2 ^ l ≤ m * 2 ^ e → v ≤ l → 2 ^ v ≤ m
-full v m e l f a c = ⊎-elim bottom (f .full) (zero-or-pos e)
-  where
-    bottom : e ≡ 0 → 2 ^ v ≤ m
-    bottom z =
-        let g : 2 ^ l ≤ m * 2 ^ 0 = subst (λ (i : ℕ). 2 ^ l ≤ m * 2 ^ i) z a in
-        le-trans (pow-mono c) (omega arith)
 
 -- ---- a number above zero between two powers
 pub value-least : (s : Sheet) (l : ℕ) → unit l ≼ value s → (s .neg ≡ false) × (2 ^ l ≤ extent s)

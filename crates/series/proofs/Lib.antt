@@ -1,5 +1,4 @@
 -- The laws of the two series. Assumes nothing.
-pub mod Kept
 pub mod Short
 pub mod Units
 pub mod Fits

@@ -22,7 +22,7 @@ use Rattle.measure.proofs.Lift.{each-map}
 use Rattle.measure.proofs.Measure.{between-sized, digited-sized, digited-fine, digited-in, fine-in}
 use Rattle.measure.proofs.Sizes.{Summed, given-sized, whole-times-summed, plus-summed}
 use Rattle.series.specs.Logarithm.{lnSeries, lnTwo, ratioR, ratioZ, lnScaled, lnRatio}
-use Rattle.series.proofs.Kept.{rounded-spelled}
+use Rattle.bracket.proofs.Kept.{rounded-spelled}
 use Rattle.series.proofs.RatioRange.{r-least, r-most}
 use Rattle.series.proofs.ZRange.{z-sized}
 use Rattle.series.proofs.LogarithmRange.{series-digited}

@@ -18,7 +18,7 @@ use Rattle.measure.proofs.Lift.{each-map}
 use Rattle.measure.proofs.Measure.{fine-sized}
 use Rattle.measure.proofs.Sizes.{held-of, digits-sized}
 use Rattle.series.specs.Logarithm.{lnPower, lnQuotient, lnSum, lnTotal, lnSeries}
-use Rattle.series.proofs.Kept.{rounded-spelled}
+use Rattle.bracket.proofs.Kept.{rounded-spelled}
 use Rattle.series.proofs.Short.{bias-room}
 use Rattle.series.proofs.Fits.{each-held}
 use Rattle.series.proofs.Sign.{sum-ordered, total-ordered}

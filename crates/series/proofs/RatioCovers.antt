@@ -22,7 +22,8 @@ use Rattle.sheet.specs.Number.{bias, value}
 use Rattle.bracket.specs.declared.Bracket.{Bracket}
 use Rattle.bracket.specs.Rules.{ends, given, plus, times}
 use Rattle.bracket.proofs.Inclusion.{plus-in, minus-in, times-in, divided-in, given-in, given-ordered}
-use Rattle.series.proofs.Kept.{rounded-sign, over-both}
+use Rattle.bracket.proofs.Kept.{rounded-sign}
+use Rattle.measure.proofs.Lift.{over-both}
 use Rattle.series.proofs.Units.{unit-part}
 use Rattle.series.proofs.Short.{unit, bias-room, low-unit, low-one}
 use Rattle.series.specs.Logarithm.{ratioR, ratioZ, lnScaled, lnRatio}

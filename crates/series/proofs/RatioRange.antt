@@ -22,7 +22,7 @@ use Rattle.bracket.specs.Rules.{ends, rounded, given, times}
 use Rattle.bracket.proofs.Corners.{over-ordered}
 use Rattle.bracket.proofs.Inclusion.{given-ordered, combined-ordered}
 use Rattle.series.specs.Logarithm.{ratioR}
-use Rattle.series.proofs.Kept.{over-both}
+use Rattle.measure.proofs.Lift.{over-both}
 use Rattle.series.proofs.Short.{short, unit, bias-room, low-unit, high-short}
 use Rattle.series.proofs.Units.{unit-pos, unit-part, short-part}
 use Rattle.series.proofs.RatioCovers.{liquid-most}

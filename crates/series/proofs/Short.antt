@@ -5,7 +5,7 @@ use mathlib.Core.Path.{subst}
 use native.Mathlib.Nat.{mul-le-mul-right}
 use Prim.Native.Nat.{_+_, _<_}
 use Rattle.sheet.proofs.Gaps.{zero-or-pos}
-use Rattle.series.proofs.Kept.{low-keeps, high-keeps}
+use Rattle.bracket.proofs.Kept.{low-keeps, high-keeps}
 use mathlib.Core.Path.{_≡_, refl, sym, ap, _∙_}
 use mathlib.Core.Bool.{false}
 use Prim.Native.Nat.{ℕ, suc, _*_, _-_, _^_, _≤_, min}

@@ -16,7 +16,8 @@ use Rattle.bracket.specs.declared.Bracket.{Bracket}
 use Rattle.bracket.specs.Rules.{ends, addlast, times}
 use Rattle.bracket.proofs.Inclusion.{combined-ordered, addlast-ordered}
 use Rattle.series.specs.Logarithm.{lnPower, lnQuotient, lnSum, lnTotal}
-use Rattle.series.proofs.Kept.{low-keeps, high-keeps, over-both, rounded-sign, corner-low, corner-high}
+use Rattle.bracket.proofs.Kept.{low-keeps, high-keeps, rounded-sign, corner-low, corner-high}
+use Rattle.measure.proofs.Lift.{over-both}
 
 -- b is at least as far from zero as a, on a's side, and zero where a is zero
 pub record Grown (a b : Fraction) : Type 0 where

@@ -22,12 +22,11 @@ use Rattle.bracket.proofs.Inclusion.{combined-ordered}
 use Rattle.bracket.proofs.Signs.{over-plus, over-minus}
 use Rattle.bracket.proofs.Within.{point-ordered}
 use Rattle.measure.specs.Measure.{Sized, Digited}
-use Rattle.measure.proofs.Lift.{each-map, rounded-both}
+use Rattle.measure.proofs.Lift.{each-map, rounded-both, over-both}
 use Rattle.measure.proofs.Measure.{⊘-sized, round-sized, digited-sized, sized-in}
 use Rattle.measure.proofs.Sizes.{Positive, minus-whole}
 use Rattle.series.proofs.Tight.{units-sized, units-digited, sized-tight}
 use Rattle.series.specs.Logarithm.{ratioZ}
-use Rattle.series.proofs.Kept.{over-both}
 use Rattle.series.proofs.Short.{short, unit, unit-one, bias-room, high-unit, low-short, high-short, low-below}
 use Rattle.series.proofs.Units.{short-le, unit-part, short-part, unit-nat}
 

@@ -1,4 +1,4 @@
--- The laws of sheet numbers, from digits up to measures, and 01's cases. Assumes nothing.
+-- The laws of sheet numbers, from digits up to ranges, and 01's cases. Assumes nothing.
 pub mod Gaps
 pub mod Digits
 pub mod Places
@@ -13,8 +13,5 @@ pub mod Sums
 pub mod Addends
 pub mod Divisions
 pub mod Measures
-pub mod Extents
-pub mod Ranges
 pub mod Closed
 pub mod Cases
-pub mod Sizes

@@ -22,7 +22,8 @@ use Rattle.sheet.proofs.Gaps.{zero-or-pos}
 use Rattle.sheet.proofs.Signed.{round-parts}
 use Rattle.sheet.proofs.Laws.{round-resp, round-value, round-nought, negate-value}
 
-zero-value : (s : Sheet) → s .m ≡ 0 → value s ≈ nat 0
+-- no digits, no value
+pub zero-value : (s : Sheet) → s .m ≡ 0 → value s ≈ nat 0
 unfolding value
 zero-value s z = rw (z, zero-mul) (parts-zero (s .neg) (2 ^ bias))
 
@@ -34,6 +35,11 @@ above-zero s h = (go (s .neg) refl, ⊎-elim (λ z. absurd (≺-irrefl (≺-≈-
     go : (n : Bool) → s .neg ≡ n → n ≡ false
     go false e = refl
     go true e = absurd (≼-not-≺ (parts-nonpos (extent s) (2 ^ bias)) (rw e at h))
+
+-- and what has no sign and some digits is above zero
+pub digits-pos : (s : Sheet) → s .neg ≡ false → 0 < s .m → nat 0 ≺ value s
+unfolding value
+digits-pos s n p = rw n (parts-pos (extent s) (2 ^ bias) (mul-pos p (pow-pos (s .e))))
 
 -- ---- given values
 

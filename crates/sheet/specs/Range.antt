@@ -3,19 +3,12 @@
 use mathlib.Core.Path.{_≡_}
 use mathlib.Core.Logic.{_⊎_}
 use Prim.Native.Nat.{ℕ, _+_, _-_, _*_, _^_, _≤_, _<_, _∣_}
-use mathlib.Core.Bool.{Bool}
-use Rattle.exact.specs.Fraction.{Fraction, parts, _≈_}
 use Rattle.sheet.specs.declared.Sheet.{Sheet}
 use Rattle.sheet.specs.Number.{bias, plainZero, Normal}
 
 -- the size in units
 abbrev pub extent : Sheet → ℕ
 extent s = s .m * 2 ^ s .e
-
--- x is n units, with a sign
-pub record Size (x : Fraction) (n : ℕ) : Type 0 where
-  pub neg : Bool
-  pub is : x ≈ parts neg n (2 ^ bias)
 
 -- zero or at least 2^l, and at most 2^h
 pub record Span (l h n : ℕ) : Type 0 where

@@ -1,7 +1,7 @@
 -- `words::above_zero` meets its contract: no sign, and some digits. Assumes nothing.
 use mathlib.Core.Bool.{false≢true}
 use borrow.Author.Tests.{ltb-true}
-use Rattle.sheet.proofs.Sizes.{digits-pos}
+use Rattle.sheet.proofs.Operations.{digits-pos}
 use Rattle.words.proofs.above_zero.Statement.{statement}
 use Rattle.words.proofs.above_zero.Tie as tie
 

@@ -2,20 +2,19 @@
 -- Assumes nothing.
 use mathlib.Core.Path.{refl}
 use mathlib.Core.Bool.{Bool, true, false}
-use Prim.Native.Nat.{ℕ, suc, _^_}
-use native.Mathlib.Omega.{arith}
-use lib.Pow.{pow-pos}
-use Rattle.exact.specs.Fraction.{Fraction, nat, _≼_, _≈_}
+use Prim.Native.Nat.{ℕ, suc}
+use Rattle.exact.specs.Fraction.{Fraction, nat, _≼_}
 use Rattle.exact.specs.Fraction.Order.{≼-trans, ≈-sym, ≈-≼-trans, ≼-≈-trans}
-use Rattle.exact.specs.Fraction.Parts.{parts-zero}
 use Rattle.sheet.specs.declared.Sheet.{Sheet}
-use Rattle.sheet.specs.Number.{bias, value, plainZero, Spelled}
+use Rattle.sheet.specs.Number.{value, plainZero, Spelled}
+use Rattle.sheet.proofs.Spelling.{zero-spelled}
+use Rattle.sheet.proofs.Operations.{zero-value}
 use Rattle.sheet.proofs.Laws.{down-le, up-ge, down-greatest, up-least, round-spelled}
 use Rattle.bracket.specs.Span.{Span, Ordered, Each, Sign, side, over}
-use Rattle.bracket.proofs.Corners.{corner, over-each}
+use Rattle.bracket.proofs.Corners.{corner}
 use Rattle.bracket.specs.Held.{Ends}
 use Rattle.bracket.specs.Rules.{ends, rounded, combined}
 use Rattle.bracket.proofs.Inclusion.{rounded-ordered}
 
 module _ (v : ℕ) (A : Span) where
   pub low-out : value (rounded (suc v) A .lo) ≼ A .low
@@ -38,22 +37,15 @@ module _ (v : ℕ) (A : Span) where
   unfolding rounded
   high-keeps s p h = up-least v (A .high) s p h
 
-pub zero-spelled : (v : ℕ) → Spelled v plainZero
-zero-spelled v = record { fit = record { small = pow-pos (suc v); full = λ h. absurd (omega arith) }; plain = λ e. refl }
-
-pub zero-value : value plainZero ≈ nat 0
-unfolding value
-zero-value = parts-zero false (2 ^ bias)
-
 -- zero is a sheet number of every count of bits
 module _ (v : ℕ) (A : Span) where
   pub low-nonneg : nat 0 ≼ A .low → nat 0 ≼ value (rounded (suc v) A .lo)
   low-nonneg h =
-      ≈-≼-trans (≈-sym zero-value) (low-keeps v A plainZero (zero-spelled v) (≈-≼-trans zero-value h))
+      ≈-≼-trans (≈-sym (zero-value plainZero refl)) (low-keeps v A plainZero (zero-spelled v) (≈-≼-trans (zero-value plainZero refl) h))
 
   pub high-nonpos : A .high ≼ nat 0 → value (rounded (suc v) A .hi) ≼ nat 0
   high-nonpos h =
-      ≼-≈-trans (high-keeps v A plainZero (zero-spelled v) (≼-≈-trans h (≈-sym zero-value))) zero-value
+      ≼-≈-trans (high-keeps v A plainZero (zero-spelled v) (≼-≈-trans h (≈-sym (zero-value plainZero refl)))) (zero-value plainZero refl)
 
 -- where all of a span has a sign, its rounding has it
 pub rounded-sign : (s : Bool) (v : ℕ) (A : Span) → Ordered A → Each (Sign s) A → Each (Sign s) (ends (rounded (suc v) A))
@@ -70,11 +62,3 @@ corner-low s t f v A B = ≼-trans (low-out v (over f A B)) (corner s t f A B .a
 
 pub corner-high : (s t : Bool) (f : Fraction → Fraction → Fraction) (v : ℕ) (A B : Span) → f (side s A) (side t B) ≼ value (combined (suc v) f A B .hi)
 corner-high s t f v A B = ≼-trans (corner s t f A B .under) (high-out v (over f A B))
-
--- what holds of both ends of the operands gives what holds of both ends of the results
-each-side : {P : Fraction → Type 0} {A : Span} (s : Bool) → Each P A → P (side s A)
-each-side true p = p .high
-each-side false p = p .low
-
-pub over-both : {P Q R : Fraction → Type 0} {A B : Span} (f : Fraction → Fraction → Fraction) → ((x y : Fraction) → P x → Q y → R (f x y)) → Each P A → Each Q B → Each R (over f A B)
-over-both {R = R} {A} {B} f h p q = over-each {R = R} f A B (λ s t. h _ _ (each-side s p) (each-side t q))
