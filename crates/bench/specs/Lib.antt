@@ -1,1 +1,2 @@
+-- The definitions that the contracts of `bench` cite. Assumes nothing.
 pub mod Lines

@@ -1,3 +1,4 @@
+-- The definitions that the contracts of `line` cite. Assumes nothing.
 pub mod Digits
 pub mod Put
 pub mod Line

@@ -1,1 +1,3 @@
+-- The laws of `panel`. Assumes nothing.
 pub mod Choices
+pub mod AcceptedCall

@@ -1,1 +1,2 @@
+-- The definitions that the contracts of `panel` cite. Assumes nothing.
 pub mod Chosen

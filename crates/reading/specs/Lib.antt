@@ -1,1 +1,2 @@
+-- The definitions that the contracts of `reading` cite. Assumes nothing.
 pub mod Values

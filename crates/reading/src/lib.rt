@@ -4,14 +4,14 @@ mod refusal;
 mod sheet;
 
 ghost use mathlib.Core.Path.{_≡_};
-ghost use Rattle.verdict.specs.Reading.{Finite, SheetFinite};
+ghost use Rattle.verdict.specs.Reading.{AnswerNumbers, SheetNumbers};
 ghost use Rattle.reading.specs.Values.{checkValues, sheetValues};
 use verdict::Answer;
 use verdict::SheetAnswer;
 
 // The density check and the pair check: number, place, lower end, upper end.
 pub fn of_check(answer: Answer) -> [u64; 4]
-    requires { ⌜ Finite answer ⌝ }
+    requires { ⌜ AnswerNumbers answer ⌝ }
     ensures { λ r. ⌜ r ≡ checkValues answer ⌝ }
 {
     let ends = check::ends(answer);
@@ -25,7 +25,7 @@ pub fn of_check(answer: Answer) -> [u64; 4]
 
 // The state sheet: number, place, the two ends of pressure, the two ends of stiffness.
 pub fn of_sheet(answer: SheetAnswer) -> [u64; 6]
-    requires { ⌜ SheetFinite answer ⌝ }
+    requires { ⌜ SheetNumbers answer ⌝ }
     ensures { λ r. ⌜ r ≡ sheetValues answer ⌝ }
 {
     let pressure = sheet::pressure(answer);

@@ -1,10 +1,9 @@
 -- Demand 1: which number each kind of bad input gets, in order, with zero ends and the place of a broken term. `FailsAt k` of a call's steps
 -- (`specs/Rules.antt`) says that its check k, counted from 0, fails and that none before it does. Assumes nothing.
 use Prim.Native.Nat.{ℕ, _<_}
-use mathlib.Core.Path.{_≡_, refl, sym, _∙_, ap}
-use mathlib.Core.Bool.{Bool, true, false}
-use mathlib.Core.List.{List, [], _∷_}
-use mathlib.Core.Logic.{_↔_}
+use mathlib.Core.Path.{_≡_, refl, _∙_, ap}
+use mathlib.Core.List.{List}
+use mathlib.Core.Logic.{_↔_, _⊎_, ⊎-elim}
 use native.Mathlib.Omega.{arith}
 use lib.Ieee.{Float}
 use Rattle.term.specs.Sound.{firstBroken}
@@ -15,9 +14,9 @@ use Rattle.verdict.specs.declared.SheetAnswer.the-variants as sheet
 use Rattle.verdict.specs.declared.Answer.{Answer}
 use Rattle.verdict.specs.declared.Answer.the-variants.{Accepted, Refused, PressureGap, GibbsGap, Stiffness}
 use Rattle.verdict.specs.Reading.{number, place, handed, zeros, sheetNumber, sheetPlace, sheetPressure, sheetStiffness, refusalPlace, refusalNumber}
-use Rattle.verdict.specs.Steps.{FailsAt, firstFailing}
+use Rattle.verdict.specs.Steps.{FailsAt, AllPass}
 use Rattle.verdict.specs.Rules.{stateSteps, stateAnswer, densitySteps, densityAnswer, pairSteps, pairAnswer}
-use Rattle.verdict.proofs.Order.{exactly, on-pass, on-fail}
+use Rattle.verdict.proofs.Order.{exactly, either, accepted, fails-at, on-pass, on-fail}
 
 -- ---- zeros: the numbers 1 to 8 hand out nothing, and only 2 has a place
 pub refused-zeros : (a : Answer) → 0 < number a → number a < 9 → handed a ≡ zeros
@@ -79,6 +78,11 @@ module _ (w : ℕ) (table : List ℕ) (t rho : Float) where
   unfolding stateAnswer
   state-8 = exactly sheetNumber 8 4 (stateSteps w table t rho) _ tt
 
+  -- answered: every check passes
+  pub state-0 : sheetNumber (stateAnswer w table t rho) ≡ 0 ↔ AllPass (stateSteps w table t rho)
+  unfolding stateAnswer
+  state-0 = accepted sheetNumber 0 (stateSteps w table t rho) _ tt refl
+
   -- the place is that of the first broken term
   pub state-place : sheetNumber (stateAnswer w table t rho) ≡ 2 → sheetPlace (stateAnswer w table t rho) ≡ firstBroken table
   unfolding stateAnswer
@@ -132,6 +136,11 @@ module _ (w : ℕ) (table : List ℕ) (t rho target tolerance : Float) where
   pub density-11 : number (densityAnswer w table t rho target tolerance) ≡ 11 ↔ FailsAt 8 (densitySteps w table t rho target tolerance)
   unfolding densityAnswer
   density-11 = exactly number 11 8 (densitySteps w table t rho target tolerance) _ tt
+
+  -- accepted: every check passes
+  pub density-0 : number (densityAnswer w table t rho target tolerance) ≡ 0 ↔ AllPass (densitySteps w table t rho target tolerance)
+  unfolding densityAnswer
+  density-0 = accepted number 0 (densitySteps w table t rho target tolerance) _ tt refl
 
   -- the place is that of the first broken term
   pub density-place : number (densityAnswer w table t rho target tolerance) ≡ 2 → place (densityAnswer w table t rho target tolerance) ≡ firstBroken table
@@ -193,3 +202,19 @@ module _ (w : ℕ) (table : List ℕ) (t liquid vapour pressureTolerance gibbsTo
   pair-place e =
       let f = pair-2 .0 e in
       ap place (on-pass _ _ _ (f .0) ∙ on-fail _ _ _ (f .1))
+
+  -- accepted: every check passes
+  pub pair-0 : number (pairAnswer w table t liquid vapour pressureTolerance gibbsTolerance) ≡ 0 ↔ AllPass (pairSteps w table t liquid vapour pressureTolerance gibbsTolerance)
+  unfolding pairAnswer
+  pair-0 = accepted number 0 (pairSteps w table t liquid vapour pressureTolerance gibbsTolerance) _ tt refl
+
+  -- a stiffness does not pass, the liquid's or, where that passes, the vapour's
+  pub pair-11 : number (pairAnswer w table t liquid vapour pressureTolerance gibbsTolerance) ≡ 11
+      ↔ (FailsAt 9 (pairSteps w table t liquid vapour pressureTolerance gibbsTolerance) ⊎ FailsAt 10 (pairSteps w table t liquid vapour pressureTolerance gibbsTolerance))
+  unfolding pairAnswer
+  pair-11 = (
+    either number 11 9 (pairSteps w table t liquid vapour pressureTolerance gibbsTolerance) _ tt,
+    ⊎-elim
+        (λ f. ap number (fails-at 9 (pairSteps w table t liquid vapour pressureTolerance gibbsTolerance) _ f))
+        (λ f. ap number (fails-at 10 (pairSteps w table t liquid vapour pressureTolerance gibbsTolerance) _ f)),
+  )

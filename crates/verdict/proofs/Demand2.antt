@@ -1,14 +1,14 @@
 -- Demand 2: the ends of an answer are the rule's own, to the last bit: the f64s of exactly the two values of the rule's bracket. The value of
 -- the equation itself lies between them at every level from 256. Where a number has no ends they are zero (`proofs/Demand1.antt`). Assumes nothing.
 use Prim.Native.Nat.{ℕ, _≤_}
-use mathlib.Core.Path.{_≡_, refl, sym, ap, _∙_, subst}
-use mathlib.Core.Bool.{Bool, true, false, _&&_}
+use mathlib.Core.Path.{_≡_, refl, ap}
+use mathlib.Core.Bool.{true}
 use mathlib.Core.List.{List}
-use mathlib.Core.Logic.{_⊎_, inl, inr, ⊎-elim}
+use mathlib.Core.Logic.{_⊎_}
 use lib.ListN.{length}
 use lib.Dec.{T, eqb, lit≤}
 use lib.Ieee.{Float, fits, binary64}
-use Rattle.exact.specs.Fraction.{Fraction, _⊖_, _≼_}
+use Rattle.exact.specs.Fraction.{Fraction, _⊖_}
 use Rattle.exact.specs.Fraction.Order.{≺→≼, ≺-trans}
 use Rattle.doubles.specs.Double.{exactOf}
 use Rattle.doubles.specs.Range.{acceptedDensity}
@@ -21,7 +21,7 @@ use Rattle.equation.specs.Itself.{pressureAt, stiffnessAt, gibbsGapAt}
 use Rattle.equation.proofs.Covers.{covers-pressure, covers-stiffness, covers-gibbsGap, covers-targetGap, covers-pressureGap}
 use Rattle.verdict.specs.declared.Ends.{Ends}
 use Rattle.verdict.specs.Reading.{number, handed, sheetNumber, sheetPressure, sheetStiffness}
-use Rattle.verdict.specs.Steps.{FailsAt, firstFailing}
+use Rattle.verdict.specs.Steps.{FailsAt}
 use Rattle.verdict.specs.Rules.{handedOut, stateSteps, stateAnswer, densitySteps, densityAnswer, pairSteps, pairAnswer}
 use Rattle.verdict.specs.Balance.{Covers}
 use Rattle.verdict.specs.Handed.{Handy}
@@ -87,7 +87,8 @@ module _ (table : List ℕ) (t rho target tolerance : Float) where
         between _ _ (pressure-handy table (sound table (steps .0) (steps .1 .0)) t hot rho dense) density-ends
         (covers-pressure 31 N (lit≤ tt) high table (temperature-in t hot) (density-in rho dense))
 
-  -- 9: the pressure less the target, which is an f64
+  -- 9: the pressure less the target. A target is an f64, and so a multiple of 2^-1074: that is what `fits` says, for the proofs' floats are
+  -- wider than f64
   module _ (nine : number (densityAnswer 32 table t rho target tolerance) ≡ 9) where
     pub density-gap-ends :
         handed (densityAnswer 32 table t rho target tolerance) ≡ handedOut (targetGap 32 table (exactOf t) (exactOf rho) (exactOf target))

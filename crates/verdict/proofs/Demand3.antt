@@ -1,17 +1,16 @@
 -- Demand 3. First half: what is accepted holds by the equation itself, at every level from 256. Second half: what is good at some one such
 -- level, by more than the width of its brackets, is accepted, whoever proposed it. Both over the count of bits suc v, from 8. Assumes nothing.
 use Prim.Native.Nat.{ℕ, suc, _≤_}
-use mathlib.Core.Path.{_≡_, refl, sym, _∙_}
-use mathlib.Core.Bool.{Bool, true, false, _&&_}
+use mathlib.Core.Path.{_≡_, refl}
+use mathlib.Core.Bool.{true}
 use mathlib.Core.List.{List}
 use lib.Ieee.{Float}
-use Rattle.exact.specs.Fraction.{Fraction, nat, _≼_}
+use Rattle.exact.specs.Fraction.{nat, _≼_}
 use Rattle.exact.specs.Fraction.Order.{≼-leq, ≺→≼, ≺-trans}
 use Rattle.sheet.specs.Number.{value}
 use Rattle.doubles.specs.Double.{exactOf}
-use Rattle.doubles.specs.Range.{acceptedDensity, acceptedTolerance}
+use Rattle.doubles.specs.Range.{acceptedDensity}
 use Rattle.bracket.specs.declared.Bracket.{Bracket}
-use Rattle.equation.specs.Rules.{pressure, stiffness, gibbsGap, targetGap, pressureGap}
 use Rattle.equation.proofs.Covers.{covers-stiffness, covers-gibbsGap, covers-targetGap, covers-pressureGap}
 use Rattle.verdict.specs.Reading.{number}
 use Rattle.verdict.specs.Rules.{pairSteps, pairAnswer, densitySteps, densityAnswer, underCeiling}

@@ -1,17 +1,14 @@
 -- Ends handed out are exactly their values, so a test on the f64s is the test on the values. Assumes nothing.
-use Prim.Native.Nat.{ℕ}
-use mathlib.Core.Path.{_≡_, refl, sym, ap, ap₂, _∙_, subst}
-use mathlib.Core.Bool.{Bool, not, _&&_}
-use lib.Dec.{T, lit≤}
+use mathlib.Core.Path.{_≡_, ap, ap₂, _∙_}
+use mathlib.Core.Bool.{not, _&&_}
+use lib.Dec.{lit≤}
 use lib.Ieee.{Float, isNan}
-use lib.Ieee.Scale.{finite}
-use Rattle.exact.specs.Fraction.{Fraction, nat, negate, leq, _≈_, _≼_}
+use Rattle.exact.specs.Fraction.{Fraction, nat, negate, leq, _≈_}
 use Rattle.exact.specs.Fraction.Order.{≈-sym, ≈-≼-trans, ≼-≈-trans}
-use Rattle.sheet.specs.declared.Sheet.{Sheet}
 use Rattle.sheet.specs.Number.{value}
 use Rattle.sheet.specs.Range.{Doubled}
 use Rattle.doubles.specs.Double.{exactOf}
-use Rattle.doubles.specs.Handed.{doubleOf, DoubleValue}
+use Rattle.doubles.specs.Handed.{DoubleValue}
 use Rattle.doubles.specs.Range.{withinTolerance}
 use Rattle.doubles.proofs.Handed.{doubleOf-finite, doubleOf-exact, doubleOf-zero, leq-double, double-leq}
 use Rattle.doubles.proofs.Write.{sheet-double, normal-few}
@@ -70,7 +67,7 @@ module _ (b : Bracket) (h : Handy b) where
   handed-covers i =
       let l = doubleOf-exact (value (b .lo)) lower-exact in
       let u = doubleOf-exact (value (b .hi)) upper-exact in
-      record { lower-exact = l; upper-exact = u; above = ≈-≼-trans l (i .above); under = ≼-≈-trans (i .under) (≈-sym u) }
+      record { lower-exact = l; upper-exact = u; lower-zero = zero-lower b; upper-zero = zero-upper b; above = ≈-≼-trans l (i .above); under = ≼-≈-trans (i .under) (≈-sym u) }
 
   -- ---- the tests, on f64s that are the bracket's ends
   module _ (e : Ends) (is : e ≡ handedOut b) where

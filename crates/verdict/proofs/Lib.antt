@@ -1,3 +1,4 @@
+-- The laws of `verdict`. Assumes nothing.
 pub mod Order
 pub mod Tests
 pub mod Tables
@@ -7,3 +8,4 @@ pub mod Settled
 pub mod Demand1
 pub mod Demand2
 pub mod Demand3
+pub mod Glance

@@ -4,7 +4,6 @@ use mathlib.Core.Path.{_≡_, sym, _∙_, ap}
 use mathlib.Core.List.{List}
 use Prim.Native.Nat.{ℕ}
 use lib.Ieee.{Float}
-use Rattle.verdict.specs.declared.Ends.{Ends}
 use Rattle.verdict.specs.declared.SheetAnswer.{SheetAnswer}
 use Rattle.verdict.specs.declared.Answer.{Answer}
 use Rattle.verdict.specs.Reading.{number, place, handed, sheetNumber, sheetPlace, sheetPressure, sheetStiffness}

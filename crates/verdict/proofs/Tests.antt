@@ -1,5 +1,5 @@
 -- What the tests of a verdict say of the exact values, and which facts of the values they follow from. Assumes nothing.
-use mathlib.Core.Path.{_≡_, refl, sym, _∙_, subst}
+use mathlib.Core.Path.{_≡_, sym, _∙_, subst}
 use mathlib.Core.Bool.{Bool, true, false, not, _&&_, and-eq-true-iff}
 use lib.Dec.{T}
 use lib.Ieee.{Float}
@@ -17,7 +17,7 @@ use Rattle.bracket.specs.declared.Bracket.{Bracket}
 use Rattle.bracket.specs.Span.{_∈_}
 use Rattle.bracket.specs.Rules.{ends}
 use Rattle.equation.specs.Accepted.{Temperature, Density, Target}
-use Rattle.verdict.specs.Rules.{underCeiling, gapPasses, pushesBack, onSides}
+use Rattle.verdict.specs.Rules.{gapPasses, pushesBack, onSides}
 use Rattle.verdict.specs.Balance.{bracketWidth}
 
 -- ---- a test of two parts

@@ -13,6 +13,7 @@ use Rattle.doubles.specs.Range.{acceptedTemperature, acceptedDensity, acceptedT
 use Rattle.term.specs.Sound.{soundTable}
 use Rattle.bracket.specs.declared.Bracket.{Bracket}
 use Rattle.verdict.specs.declared.Ends.{Ends}
+use Rattle.verdict.specs.Reading.{plainZero}
 use Rattle.equation.specs.Rules.{pressure, stiffness, gibbsGap, targetGap, pressureGap}
 use Rattle.equation.specs.Itself.{pressureAt, stiffnessAt, gibbsGapAt}
 
@@ -21,10 +22,12 @@ unfoldable pub bracketWidth : Bracket → Fraction
 bracketWidth b = width (value (b .lo)) (value (b .hi))
 
 -- ---- ends handed out
--- the two f64s are exactly the ends of the bracket b, and the number x lies between them
+-- the two f64s are exactly the ends of the bracket b, zero as +0.0, and the number x lies between them
 pub record Covers (e : Ends) (b : Bracket) (x : Fraction) : Type 0 where
   pub lower-exact : exactOf (e .lower) ≈ value (b .lo)
   pub upper-exact : exactOf (e .upper) ≈ value (b .hi)
+  pub lower-zero : value (b .lo) ≈ nat 0 → e .lower ≡ plainZero
+  pub upper-zero : value (b .hi) ≈ nat 0 → e .upper ≡ plainZero
   pub above : exactOf (e .lower) ≼ x
   pub under : x ≼ exactOf (e .upper)
 

@@ -6,7 +6,6 @@ use mathlib.Core.List.{List}
 use lib.Dec.{T}
 use lib.Ieee.{Float}
 use lib.Ieee.Scale.{finite}
-use Rattle.sheet.specs.declared.Sheet.{Sheet}
 use Rattle.sheet.specs.Range.{Doubled}
 use Rattle.exact.specs.Fraction.{_≼_}
 use Rattle.doubles.specs.Double.{exactOf}

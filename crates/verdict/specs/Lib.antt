@@ -1,3 +1,4 @@
+-- The definitions that the contracts of `verdict` cite. Assumes nothing.
 pub mod Reading
 pub mod Steps
 pub mod Rules

@@ -83,8 +83,8 @@ sheetStiffness (sheet.Refused why) = zeros
 abbrev pub Numbers : Ends → Type 0
 Numbers ends = T (not (isNan (ends .lower))) × T (not (isNan (ends .upper)))
 
-abbrev pub Finite : Answer → Type 0
-Finite answer = Numbers (handed answer)
+abbrev pub AnswerNumbers : Answer → Type 0
+AnswerNumbers answer = Numbers (handed answer)
 
-abbrev pub SheetFinite : SheetAnswer → Type 0
-SheetFinite answer = Numbers (sheetPressure answer) × Numbers (sheetStiffness answer)
+abbrev pub SheetNumbers : SheetAnswer → Type 0
+SheetNumbers answer = Numbers (sheetPressure answer) × Numbers (sheetStiffness answer)

@@ -6,7 +6,7 @@ use mathlib.Core.List.{List, [], _∷_}
 use lib.ListN.{length}
 use lib.Dec.{eqb}
 use lib.Ieee.{Float}
-use Rattle.exact.specs.Fraction.{Fraction, nat, leq}
+use Rattle.exact.specs.Fraction.{nat, leq}
 use Rattle.sheet.specs.Number.{value}
 use Rattle.doubles.specs.Double.{exactOf}
 use Rattle.doubles.specs.Handed.{doubleOf}

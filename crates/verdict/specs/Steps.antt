@@ -1,9 +1,8 @@
 -- Checks in an order: each step is a test and the answer where it fails; the first that fails is the answer. Assumes nothing.
 use Prim.Native.Nat.{ℕ, zero, suc}
 use mathlib.Core.Path.{_≡_}
-use mathlib.Core.Bool.{Bool, true, false, cond, not, _&&_}
+use mathlib.Core.Bool.{Bool, true, false, cond}
 use mathlib.Core.List.{List, [], _∷_}
-use lib.Dec.{eqb}
 
 pub record Step (A : Type 0) : Type 0 where
   pub passes : Bool

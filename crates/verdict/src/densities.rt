@@ -17,16 +17,17 @@ ghost use Rattle.doubles.specs.Double.{exactOf};
 ghost use Rattle.term.specs.Sound.{soundTable};
 ghost use Rattle.equation.specs.Rules.{pressure};
 ghost use Rattle.verdict.specs.declared.Answer.the-variants.{Accepted};
-ghost use Rattle.verdict.specs.Reading.{Finite};
+ghost use Rattle.verdict.specs.Reading.{AnswerNumbers};
 ghost use Rattle.verdict.specs.Steps.{firstFailing};
-ghost use Rattle.verdict.specs.Rules.{handedOut, densityWorked, densityInputs, densityAnswer};
+ghost use Rattle.verdict.specs.Rules.{handedOut, densityWorked, densityInputs};
+ghost use Rattle.verdict.specs.Statement.{DensityStated};
 ghost use Rattle.verdict.specs.Handed.{Handy};
 
 // 8, 9 and 11, by the brackets of pressure, of pressure less target, and of stiffness.
 fn worked(p: Bracket, gap: Bracket, s: Bracket, tolerance: f64) -> Answer
     requires { ⌜ (Handy p × Handy gap) × (Handy s × T (finite tolerance)) ⌝ }
     ensures { λ r. ⌜ r ≡ firstFailing (densityWorked p gap s tolerance) (Accepted (handedOut p)) ⌝ }
-    ensures { λ r. ⌜ Finite r ⌝ }
+    ensures { λ r. ⌜ AnswerNumbers r ⌝ }
 {
     if !under_ceiling(p) {
         return Answer::Refused(Refusal::Ceiling);
@@ -44,7 +45,7 @@ fn worked(p: Bracket, gap: Bracket, s: Bracket, tolerance: f64) -> Answer
 fn screened(table: &[u8], t: f64, rho: f64, target: f64, tolerance: f64) -> Answer
     requires { ⌜ soundTable (now table) ≡ true ⌝ }
     ensures { λ r. ⌜ r ≡ firstFailing (densityInputs 32 (now (table .entry)) t rho target tolerance) (Accepted (handedOut (pressure 32 (now (table .entry)) (exactOf t) (exactOf rho)))) ⌝ }
-    ensures { λ r. ⌜ Finite r ⌝ }
+    ensures { λ r. ⌜ AnswerNumbers r ⌝ }
 {
     if !doubles::range::accepts_temperature(t) {
         return Answer::Refused(Refusal::Temperature);
@@ -64,8 +65,8 @@ fn screened(table: &[u8], t: f64, rho: f64, target: f64, tolerance: f64) -> Answ
 }
 
 pub fn density_check(table: &[u8], state: State, target: f64, tolerance: f64) -> Answer
-    ensures { λ r. ⌜ r ≡ densityAnswer 32 (now (table .entry)) (state .temperature) (state .density) target tolerance ⌝ }
-    ensures { λ r. ⌜ Finite r ⌝ }
+    ensures { λ r. ⌜ DensityStated (now (table .entry)) (state .temperature) (state .density) target tolerance r ⌝ }
+    ensures { λ r. ⌜ AnswerNumbers r ⌝ }
     ensures { λ r. ⌜ now (table .exit) ≡ now (table .entry) ⌝ }
 {
     let t = state.temperature;

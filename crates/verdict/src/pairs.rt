@@ -18,9 +18,10 @@ ghost use Rattle.doubles.specs.Range.{acceptedDensity, acceptedTolerance};
 ghost use Rattle.term.specs.Sound.{soundTable};
 ghost use Rattle.equation.specs.Rules.{pressure};
 ghost use Rattle.verdict.specs.declared.Answer.the-variants.{Accepted};
-ghost use Rattle.verdict.specs.Reading.{Finite};
+ghost use Rattle.verdict.specs.Reading.{AnswerNumbers};
 ghost use Rattle.verdict.specs.Steps.{firstFailing};
-ghost use Rattle.verdict.specs.Rules.{handedOut, underCeiling, onSides, balanceWorked, pairWorked, pairRest, pairInputs, pairAnswer};
+ghost use Rattle.verdict.specs.Rules.{handedOut, underCeiling, onSides, balanceWorked, pairWorked, pairRest, pairInputs};
+ghost use Rattle.verdict.specs.Statement.{PairStated};
 ghost use Rattle.verdict.specs.Handed.{Handy, WorkablePair};
 
 fn accepts_densities(liquid: f64, vapour: f64) -> bool
@@ -70,7 +71,7 @@ fn balanced(gibbs: Bracket, l: Bracket, v: Bracket, gibbs_tolerance: f64, q: Bra
     requires { ⌜ (Handy gibbs × Handy l) × (Handy v × Handy q) ⌝ }
     requires { ⌜ T (finite «gibbs_tolerance») ⌝ }
     ensures { λ r. ⌜ r ≡ firstFailing (balanceWorked gibbs l v «gibbs_tolerance») (Accepted (handedOut q)) ⌝ }
-    ensures { λ r. ⌜ Finite r ⌝ }
+    ensures { λ r. ⌜ AnswerNumbers r ⌝ }
 {
     if !gap_passes(gibbs, gibbs_tolerance) {
         return Answer::GibbsGap(handed_out(gibbs));
@@ -97,7 +98,7 @@ fn judged(
 ) -> Answer
     requires { ⌜ (((Handy p × Handy q) × (Handy gap × Handy gibbs)) × (Handy l × Handy v)) × (T (finite «pressure_tolerance») × T (finite «gibbs_tolerance»)) ⌝ }
     ensures { λ r. ⌜ r ≡ firstFailing (pairWorked p q gap «pressure_tolerance» (balanceWorked gibbs l v «gibbs_tolerance»)) (Accepted (handedOut q)) ⌝ }
-    ensures { λ r. ⌜ Finite r ⌝ }
+    ensures { λ r. ⌜ AnswerNumbers r ⌝ }
 {
     if !both_under_ceiling(p, q) {
         return Answer::Refused(Refusal::Ceiling);
@@ -119,7 +120,7 @@ fn worked(
 ) -> Answer
     requires { ⌜ WorkablePair (now table) t liquid vapour «pressure_tolerance» «gibbs_tolerance» ⌝ }
     ensures { λ r. ⌜ r ≡ firstFailing (pairRest 32 (now (table .entry)) t liquid vapour «pressure_tolerance» «gibbs_tolerance») (Accepted (handedOut (pressure 32 (now (table .entry)) (exactOf t) (exactOf vapour)))) ⌝ }
-    ensures { λ r. ⌜ Finite r ⌝ }
+    ensures { λ r. ⌜ AnswerNumbers r ⌝ }
 {
     let l = phase_of(table, t, liquid);
     let v = phase_of(table, t, vapour);
@@ -148,7 +149,7 @@ fn screened(
 ) -> Answer
     requires { ⌜ soundTable (now table) ≡ true ⌝ }
     ensures { λ r. ⌜ r ≡ firstFailing (pairInputs 32 (now (table .entry)) t liquid vapour «pressure_tolerance» «gibbs_tolerance») (Accepted (handedOut (pressure 32 (now (table .entry)) (exactOf t) (exactOf vapour)))) ⌝ }
-    ensures { λ r. ⌜ Finite r ⌝ }
+    ensures { λ r. ⌜ AnswerNumbers r ⌝ }
 {
     if !doubles::range::accepts_temperature(t) {
         return Answer::Refused(Refusal::Temperature);
@@ -179,8 +180,8 @@ pub fn pair_check(
     pressure_tolerance: f64,
     gibbs_tolerance: f64,
 ) -> Answer
-    ensures { λ r. ⌜ r ≡ pairAnswer 32 (now (table .entry)) (liquid .temperature) (liquid .density) vapour «pressure_tolerance» «gibbs_tolerance» ⌝ }
-    ensures { λ r. ⌜ Finite r ⌝ }
+    ensures { λ r. ⌜ PairStated (now (table .entry)) (liquid .temperature) (liquid .density) vapour «pressure_tolerance» «gibbs_tolerance» r ⌝ }
+    ensures { λ r. ⌜ AnswerNumbers r ⌝ }
     ensures { λ r. ⌜ now (table .exit) ≡ now (table .entry) ⌝ }
 {
     let t = liquid.temperature;

@@ -11,16 +11,17 @@ ghost use mathlib.Core.Path.{_≡_};
 ghost use mathlib.Core.Bool.{true};
 ghost use Rattle.term.specs.Sound.{soundTable};
 ghost use Rattle.verdict.specs.declared.SheetAnswer.the-variants.{Answered};
-ghost use Rattle.verdict.specs.Reading.{SheetFinite};
+ghost use Rattle.verdict.specs.Reading.{SheetNumbers};
 ghost use Rattle.verdict.specs.Steps.{firstFailing};
-ghost use Rattle.verdict.specs.Rules.{handedOut, stateWorked, stateInputs, stateAccepted, stateAnswer};
+ghost use Rattle.verdict.specs.Rules.{handedOut, stateWorked, stateInputs, stateAccepted};
+ghost use Rattle.verdict.specs.Statement.{StateStated};
 ghost use Rattle.verdict.specs.Handed.{Handy};
 
 // 8, then the ends.
 fn worked(pressure: Bracket, stiffness: Bracket) -> SheetAnswer
     requires { ⌜ Handy pressure × Handy stiffness ⌝ }
     ensures { λ r. ⌜ r ≡ firstFailing (stateWorked pressure) (Answered (handedOut pressure) (handedOut stiffness)) ⌝ }
-    ensures { λ r. ⌜ SheetFinite r ⌝ }
+    ensures { λ r. ⌜ SheetNumbers r ⌝ }
 {
     if under_ceiling(pressure) {
         let p = handed_out(pressure);
@@ -35,7 +36,7 @@ fn worked(pressure: Bracket, stiffness: Bracket) -> SheetAnswer
 fn screened(table: &[u8], t: f64, rho: f64) -> SheetAnswer
     requires { ⌜ soundTable (now table) ≡ true ⌝ }
     ensures { λ r. ⌜ r ≡ firstFailing (stateInputs 32 (now (table .entry)) t rho) (stateAccepted 32 (now (table .entry)) t rho) ⌝ }
-    ensures { λ r. ⌜ SheetFinite r ⌝ }
+    ensures { λ r. ⌜ SheetNumbers r ⌝ }
 {
     if !doubles::range::accepts_temperature(t) {
         return SheetAnswer::Refused(Refusal::Temperature);
@@ -48,8 +49,8 @@ fn screened(table: &[u8], t: f64, rho: f64) -> SheetAnswer
 }
 
 pub fn state_sheet(table: &[u8], state: State) -> SheetAnswer
-    ensures { λ r. ⌜ r ≡ stateAnswer 32 (now (table .entry)) (state .temperature) (state .density) ⌝ }
-    ensures { λ r. ⌜ SheetFinite r ⌝ }
+    ensures { λ r. ⌜ StateStated (now (table .entry)) (state .temperature) (state .density) r ⌝ }
+    ensures { λ r. ⌜ SheetNumbers r ⌝ }
     ensures { λ r. ⌜ now (table .exit) ≡ now (table .entry) ⌝ }
 {
     let t = state.temperature;

@@ -1,5 +1,4 @@
 -- `verdict::pairs::worked` meets its contract. Assumes nothing.
-use mathlib.Core.Path.{sym, _∙_}
 use Rattle.exact.specs.Fraction.Order.{≼-leq}
 use Rattle.equation.specs.Rules.{pressureGap, gibbsGap}
 use Rattle.verdict.specs.Worked.{phaseOf}

@@ -1,5 +1,4 @@
 -- `verdict::phases::phase_of` meets its contract. Assumes nothing.
-use mathlib.Core.Path.{refl}
 use borrow.Author.Needs.{needs}
 use Rattle.equation.specs.Rules.{pressure, stiffness}
 use Rattle.verdict.specs.Worked.{phaseOf}

@@ -1,0 +1,31 @@
+-- The pair check's steps at a glance, in the order of document 01's numbers. Assumes nothing.
+use Prim.Native.Nat.{ℕ}
+use mathlib.Core.Path.{_≡_, refl}
+use mathlib.Core.Bool.{_&&_}
+use mathlib.Core.List.{List, [], _∷_}
+use lib.ListN.{length}
+use lib.Dec.{eqb}
+use lib.Ieee.{Float}
+use Rattle.doubles.specs.Double.{exactOf}
+use Rattle.doubles.specs.Range.{acceptedTemperature, acceptedDensity, acceptedTolerance}
+use Rattle.term.specs.Sound.{soundLength, firstBroken}
+use Rattle.equation.specs.Rules.{pressure, stiffness, gibbsGap, pressureGap}
+use Rattle.verdict.specs.declared.Refusal.the-variants.{TableLength, BrokenTerm, Temperature, Density, Tolerance, Sides, Ceiling}
+use Rattle.verdict.specs.declared.Answer.the-variants.{Refused, PressureGap, GibbsGap, Stiffness}
+use Rattle.verdict.specs.Rules.{pairSteps, onSides, underCeiling, gapPasses, pushesBack, handedOut}
+
+pub pair-checks : (w : ℕ) (table : List ℕ) (t liquid vapour pressureTolerance gibbsTolerance : Float)
+    → pairSteps w table t liquid vapour pressureTolerance gibbsTolerance
+    ≡ record { passes = soundLength (length table); otherwise = Refused TableLength }
+    ∷ record { passes = eqb (firstBroken table) 0; otherwise = Refused (BrokenTerm (firstBroken table)) }
+    ∷ record { passes = acceptedTemperature t; otherwise = Refused Temperature }
+    ∷ record { passes = acceptedDensity liquid && acceptedDensity vapour; otherwise = Refused Density }
+    ∷ record { passes = acceptedTolerance pressureTolerance && acceptedTolerance gibbsTolerance; otherwise = Refused Tolerance }
+    ∷ record { passes = onSides liquid vapour; otherwise = Refused Sides }
+    ∷ record { passes = underCeiling (pressure w table (exactOf t) (exactOf liquid)) && underCeiling (pressure w table (exactOf t) (exactOf vapour)); otherwise = Refused Ceiling }
+    ∷ record { passes = gapPasses (pressureGap w table (exactOf t) (exactOf liquid) (exactOf vapour)) pressureTolerance; otherwise = PressureGap (handedOut (pressureGap w table (exactOf t) (exactOf liquid) (exactOf vapour))) }
+    ∷ record { passes = gapPasses (gibbsGap w table (exactOf t) (exactOf liquid) (exactOf vapour)) gibbsTolerance; otherwise = GibbsGap (handedOut (gibbsGap w table (exactOf t) (exactOf liquid) (exactOf vapour))) }
+    ∷ record { passes = pushesBack (stiffness w table (exactOf t) (exactOf liquid)); otherwise = Stiffness (handedOut (stiffness w table (exactOf t) (exactOf liquid))) }
+    ∷ record { passes = pushesBack (stiffness w table (exactOf t) (exactOf vapour)); otherwise = Stiffness (handedOut (stiffness w table (exactOf t) (exactOf vapour))) }
+    ∷ []
+pair-checks w table t liquid vapour pressureTolerance gibbsTolerance = refl
