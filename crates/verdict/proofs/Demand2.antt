@@ -4,7 +4,6 @@ use Prim.Native.Nat.{ℕ, _≤_}
 use mathlib.Core.Path.{_≡_, refl, ap}
 use mathlib.Core.Bool.{true}
 use mathlib.Core.List.{List}
-use mathlib.Core.Logic.{_⊎_}
 use lib.ListN.{length}
 use lib.Dec.{T, eqb, lit≤}
 use lib.Ieee.{Float, fits, binary64}
@@ -25,7 +24,7 @@ use Rattle.verdict.specs.Steps.{FailsAt}
 use Rattle.verdict.specs.Rules.{handedOut, stateSteps, stateAnswer, densitySteps, densityAnswer, pairSteps, pairAnswer}
 use Rattle.verdict.specs.Balance.{Covers}
 use Rattle.verdict.specs.Handed.{Handy}
-use Rattle.verdict.proofs.Order.{accepted, all-pass, fails-at, either}
+use Rattle.verdict.proofs.Order.{accepted, all-pass, fails-at}
 use Rattle.verdict.proofs.Tests.{both, together, holds, temperature-in, density-in, sides}
 use Rattle.verdict.proofs.HandedOut.{handed-covers}
 use Rattle.verdict.proofs.Ready.{pressure-handy, stiffness-handy, targetGap-handy, pressureGap-handy, gibbsGap-handy}
@@ -194,14 +193,7 @@ module _ (table : List ℕ) (t liquid vapour pressureTolerance gibbsTolerance : 
         between _ _ (gibbsGap-handy table (sound table (steps .0) (steps .1 .0)) t hot liquid vapour dense thin above) pair-gibbs-ends
         (covers-gibbsGap 31 N (lit≤ tt) high table (temperature-in t hot) (density-in liquid dense) (density-in vapour thin) above)
 
-  -- 11: the stiffness that fails, the liquid's where it does, else the vapour's
-  module _ (eleven : number (pairAnswer 32 table t liquid vapour pressureTolerance gibbsTolerance) ≡ 11) where
-    pub pair-stiffness-fails :
-        FailsAt 9 (pairSteps 32 table t liquid vapour pressureTolerance gibbsTolerance)
-        ⊎ FailsAt 10 (pairSteps 32 table t liquid vapour pressureTolerance gibbsTolerance)
-    unfolding pairAnswer
-    pair-stiffness-fails = either number 11 9 (pairSteps 32 table t liquid vapour pressureTolerance gibbsTolerance) _ tt eleven
-
+  -- 11: the stiffness that fails, the liquid's where it does, else the vapour's (`pair-11` of `proofs/Demand1.antt` says which)
   pub liquid-stiffness-ends : FailsAt 9 (pairSteps 32 table t liquid vapour pressureTolerance gibbsTolerance)
       → handed (pairAnswer 32 table t liquid vapour pressureTolerance gibbsTolerance) ≡ handedOut (stiffness 32 table (exactOf t) (exactOf liquid))
   unfolding pairAnswer
