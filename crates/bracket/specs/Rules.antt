@@ -1,10 +1,11 @@
 -- The rules of brackets (01, "Sheet numbers and brackets") over the count of bits w: a given value, the sum, the difference, the product and
--- the quotient, powers, and the last addend of a series once more. Operands are spans, so that a whole number is one as it is. Assumes
--- nothing.
+-- the quotient, powers, the last addend of a series once more, and the upper end so many sheet numbers on. Operands are spans, so that a
+-- whole number is one as it is. Assumes nothing.
 use Prim.Native.Nat.{ℕ, zero, suc}
 use Rattle.exact.specs.Fraction.{Fraction, nat, _⊕_, _⊖_, _⊗_, _⊘_}
 use Rattle.sheet.specs.Number.{value}
 use Rattle.sheet.specs.Round.{down, up}
+use Rattle.sheet.specs.Onward.{onward}
 use Rattle.bracket.specs.declared.Bracket.{Bracket}
 use Rattle.bracket.specs.Span.{Span, point, over}
 
@@ -45,3 +46,7 @@ power w b (suc n) = times w (ends (power w b n)) (ends b)
 -- how both series close: the upper end of the last addend t counts twice, in the sum's upper end alone
 unfoldable pub addlast : ℕ → Bracket → Bracket → Bracket
 addlast w s t = record { lo = s .lo; hi = up w (value (s .hi) ⊕ value (t .hi)) }
+
+-- the lower end stays, the upper end goes n sheet numbers on
+abbrev pub stretched : ℕ → ℕ → Bracket → Bracket
+stretched w n b = record { lo = b .lo; hi = onward w n (b .hi) }

@@ -1,7 +1,7 @@
-// Brackets of two sheet numbers of 32 bits (01, "Sheet numbers and brackets"): given values, the four operations, powers, and the last
-// addend of a series once more. Every function's contract is the rule itself. Assumes nothing.
+// Brackets of two sheet numbers of 32 bits (01, "Sheet numbers and brackets"): given values, the four operations, powers, the last addend
+// of a series once more, and an upper end so many sheet numbers on. Every function's contract is the rule itself. Assumes nothing.
 mod values; // values.rt: given values and whole numbers
-mod sums; // sums.rt: sum, difference, and the last addend once more
+mod sums; // sums.rt: sum, difference, the last addend once more, the upper end further on
 mod products; // products.rt: product by the signs of the ends
 mod quotients; // quotients.rt: quotient by a divisor above zero
 mod powers; // powers.rt: powers by recursion
@@ -12,6 +12,7 @@ pub use quotients::quotient;
 use sheet::Sheet;
 pub use sums::add_last;
 pub use sums::difference;
+pub use sums::stretched;
 pub use sums::sum;
 pub use values::given;
 pub use values::given_ratio;

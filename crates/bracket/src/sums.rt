@@ -1,7 +1,9 @@
-// The sum and the difference of brackets, two roundings each, and a series' last addend once more. Assumes nothing.
+// The sum and the difference of brackets, two roundings each, a series' last addend once more, and an upper end so many sheet numbers on.
+// Assumes nothing.
 use crate::Bracket;
 ghost use mathlib.Core.Path.{_≡_};
-ghost use Rattle.bracket.specs.Rules.{ends, plus, minus, addlast};
+ghost use Prim.Native.Nat.{_^_, _≤_};
+ghost use Rattle.bracket.specs.Rules.{ends, plus, minus, addlast, stretched};
 ghost use Rattle.bracket.specs.Held.{Held};
 
 // Lower end and lower end give the least sum, upper and upper the greatest.
@@ -31,5 +33,15 @@ pub fn add_last(s: Bracket, t: Bracket) -> Bracket
 {
     let lo = s.lo;
     let hi = sheet::sum(true, s.hi, t.hi);
+    Bracket { lo, hi }
+}
+
+// A bracket's upper end goes n sheet numbers on.
+pub fn stretched(b: Bracket, n: u64) -> Bracket
+    requires { ⌜ Held b × (n ≤ 2 ^ 31) ⌝ }
+    ensures { λ r. ⌜ r ≡ stretched 32 n b ⌝ }
+{
+    let lo = b.lo;
+    let hi = sheet::onward(b.hi, n);
     Bracket { lo, hi }
 }

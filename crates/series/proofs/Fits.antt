@@ -2,13 +2,14 @@
 use mathlib.Core.Path.{_≡_}
 use mathlib.Core.Bool.{false}
 use mathlib.Core.Logic.{inr}
-use Prim.Native.Nat.{ℕ, _+_, _*_, _^_, _≤_}
-use native.Mathlib.Nat.{le-of-mul-le-mul-right}
+use Prim.Native.Nat.{ℕ, suc, _+_, _*_, _^_, _≤_, _<_}
+use native.Mathlib.Nat.{le-of-mul-le-mul-right, mul-lt-mul-of-pos-right}
 use native.Mathlib.Omega.{arith}
-use lib.Pow.{pow-pos}
+use lib.Pow.{pow-pos, pow-add}
 use Rattle.exact.specs.Fraction.{_≼_}
 use Rattle.exact.specs.Fraction.Order.{≺-≼-trans}
 use Rattle.exact.specs.Fraction.Parts.{≼-parts}
+use Rattle.exact.specs.Fraction.Units.{≼-units, units-≼}
 use Rattle.sheet.specs.declared.Sheet.{Sheet}
 use Rattle.sheet.specs.Number.{bias, value, Spelled}
 use Rattle.sheet.specs.Range.{extent, Span as Size}
@@ -32,14 +33,20 @@ value-least s l a =
     let l1 = le-of-mul-le-mul-right low (pow-pos bias) in
     (z, omega arith)
 
-pub value-size : {l h : ℕ} (s : Sheet) → unit l ≼ value s → value s ≼ unit h → Size l h (extent s)
+pub value-most : (s : Sheet) (h : ℕ) → s .neg ≡ false → value s ≼ unit h → extent s ≤ 2 ^ h
 unfolding value short
-value-size {l} {h} s a b =
-    let z = value-least s l a in
-    let top : extent s * 2 ^ bias ≤ 1 * 2 ^ h * 2 ^ bias =
-    ≼-parts (extent s) (2 ^ bias) (1 * 2 ^ h) (2 ^ bias) (pow-pos bias) (pow-pos bias) (rw (z .0) at b) in
-    let t1 = le-of-mul-le-mul-right top (pow-pos bias) in
-    record { least = inr (z .1); most = omega arith }
+value-most s h z b = let t = ≼-units (extent s) (1 * 2 ^ h) (2 ^ bias) (pow-pos bias) (rw z at b) in omega arith
+
+pub value-size : {l h : ℕ} (s : Sheet) → unit l ≼ value s → value s ≼ unit h → Size l h (extent s)
+value-size {l} {h} s a b = let z = value-least s l a in record { least = inr (z .1); most = value-most s h (z .0) b }
+
+-- suc v digits at a place stay below the next power of two
+pub value-under : (v : ℕ) (s : Sheet) → Spelled v s → s .neg ≡ false → value s ≼ unit (s .e + suc v)
+unfolding value short
+value-under v s p z =
+    let l : s .m * 2 ^ s .e < 2 ^ suc v * 2 ^ s .e = mul-lt-mul-of-pos-right (p .fit .small) (pow-pos (s .e)) in
+    let e = pow-add 2 (s .e) (suc v) in
+    rw z (units-≼ (extent s) (1 * 2 ^ (s .e + suc v)) (2 ^ bias) (omega arith))
 
 -- ---- brackets at 32 bits
 pub each-held : {l h : ℕ} (b : Bracket) → Ends (Spelled 31) b → Ordered (ends b) → Each (Sized l h) (ends b) → bias + 31 ≤ l + 20000 → h ≤ 31 + bias + 20000 → 31 ≤ l → Held b

@@ -12,6 +12,7 @@ pub mod Tight
 pub mod Rise
 pub mod ExponentialRange
 pub mod ExponentialHeld
+pub mod ExponentialRest
 pub mod ExponentialSteps
 pub mod RatioRange
 pub mod ZRange

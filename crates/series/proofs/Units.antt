@@ -1,4 +1,4 @@
--- Short numbers and powers of two in units of 2^-bias: their order and sums, and which whole numbers and fractions they are. Assumes nothing.
+-- Short numbers and powers of two in units of 2^-bias: their order, sums and multiples, and which whole numbers and fractions they are. Assumes nothing.
 use mathlib.Core.Path.{_≡_, sym, ap, _∙_}
 use mathlib.Core.Bool.{false}
 use Prim.Native.Nat.{ℕ, _+_, _-_, _*_, _^_, _≤_}
@@ -6,9 +6,10 @@ use native.Mathlib.Nat.{mul-pos, mul-le-mul-left, mul-le-mul-right}
 use native.Mathlib.Omega.{arith}
 use lib.Dec.{lit≤}
 use lib.Pow.{pow-pos, pow-mono, pow-add}
-use Rattle.exact.specs.Fraction.{nat, parts, _⊕_, _≼_, _≺_, _≈_}
+use Rattle.exact.specs.Fraction.{nat, parts, _⊕_, _⊗_, _≼_, _≺_, _≈_}
 use Rattle.exact.specs.Fraction.Order.{≈-trans}
 use Rattle.exact.specs.Fraction.Parts.{parts-≼, parts-pos, parts-⊕, parts-nat, parts-≈}
+use Rattle.exact.specs.Fraction.Units.{parts-⊗-nat}
 use Rattle.sheet.specs.Number.{bias}
 use Rattle.series.proofs.Short.{short, unit}
 
@@ -26,6 +27,11 @@ short-sum m n l =
     ≈-trans (parts-⊕ false (m * 2 ^ l) (2 ^ bias) (n * 2 ^ l) (2 ^ bias) (pow-pos bias) (pow-pos bias))
     (parts-≈ false (m * 2 ^ l * 2 ^ bias + n * 2 ^ l * 2 ^ bias) (2 ^ bias * 2 ^ bias) ((m + n) * 2 ^ l) (2 ^ bias)
     (mul-pos (pow-pos bias) (pow-pos bias)) (pow-pos bias) (omega arith))
+
+pub unit-times : (l n : ℕ) → unit l ⊗ nat n ≈ short n l
+unfolding short
+unit-times l n =
+    ≈-trans (parts-⊗-nat false (1 * 2 ^ l) (2 ^ bias) n) (parts-≈ false (1 * 2 ^ l * n) (2 ^ bias) (n * 2 ^ l) (2 ^ bias) (pow-pos bias) (pow-pos bias) (omega arith))
 
 pub unit-pos : (l : ℕ) → nat 0 ≺ unit l
 unfolding short

@@ -1,10 +1,12 @@
-// The exponential of minus x: 257 terms, summed left to right, and 1 divided by their sum.
+// The exponential of minus x: 257 terms, summed left to right, and 1 divided by their sum. Where the terms have become slight, what is left
+// of the sum is known and taken at once.
 use bracket::Bracket;
 ghost use mathlib.Core.Path.{_≡_};
-ghost use Prim.Native.Nat.{_+_, _<_};
-ghost use Rattle.bracket.specs.Rules.{ends};
+ghost use mathlib.Core.Bool.{true};
+ghost use Prim.Native.Nat.{_+_, _-_, _<_};
+ghost use Rattle.bracket.specs.Rules.{ends, stretched};
 ghost use Rattle.bracket.specs.Held.{Held};
-ghost use Rattle.series.specs.Exponential.{expneg};
+ghost use Rattle.series.specs.Exponential.{expTotal, expneg};
 ghost use Rattle.series.specs.Terms.{Taken, termsTo};
 
 // Term k, and the sum of the terms 0 to k.
@@ -24,10 +26,29 @@ fn one_more(x: Bracket, s: Terms, k: u64) -> Terms
     Terms { term, sum }
 }
 
-// The last term's upper end counts once more in the upper end of the sum, and 1 is divided by that.
-pub fn expneg(x: Bracket) -> Bracket
+// Whether every step from here on only moves the sum's upper end to the next sheet number: the terms are above zero and no longer grow, and
+// the power of two above term k lies below one unit of the sum's last place. Each term to come takes such a step, and so does the last one
+// when it counts once more.
+fn settled(x: Bracket, s: Terms, k: u64) -> bool
+    requires { ⌜ Held x × Taken (ends x) × (k < 256) × (s ≡ termsTo (ends x) k) ⌝ }
+    ensures { λ r. ⌜ (r ≡ true → expTotal 32 (ends x) ≡ stretched 32 (257 - k) (s .sum)) ⌝ }
+{
+    let te = s.term.hi.e;
+    let se = s.sum.lo.e;
+    let xm = x.hi.m;
+    if se <= te + 32 {
+        return false;
+    }
+    if xm == 0 {
+        return false;
+    }
+    sheet::at_most(x.hi, sheet::whole(k + 1))
+}
+
+// The sum to 256, with the last term's upper end once more in its upper end.
+fn total(x: Bracket) -> Bracket
     requires { ⌜ Held x × Taken (ends x) ⌝ }
-    ensures { λ r. ⌜ r ≡ expneg 32 (ends x) ⌝ }
+    ensures { λ r. ⌜ r ≡ expTotal 32 (ends x) ⌝ }
 {
     let one = bracket::whole(1);
     let mut s = Terms {
@@ -36,9 +57,20 @@ pub fn expneg(x: Bracket) -> Bracket
     };
     let mut k = 0;
     while k < 256 {
+        if settled(x, s, k) {
+            return bracket::stretched(s.sum, 257 - k);
+        }
         s = one_more(x, s, k);
         k += 1;
     }
-    let total = bracket::add_last(s.sum, s.term);
-    bracket::quotient(one, total)
+    bracket::add_last(s.sum, s.term)
+}
+
+// 1 divided by that.
+pub fn expneg(x: Bracket) -> Bracket
+    requires { ⌜ Held x × Taken (ends x) ⌝ }
+    ensures { λ r. ⌜ r ≡ expneg 32 (ends x) ⌝ }
+{
+    let one = bracket::whole(1);
+    bracket::quotient(one, total(x))
 }

@@ -9,6 +9,7 @@ pub mod Laws
 pub mod Operations
 pub mod Live
 pub mod Compare
+pub mod Successors
 pub mod Sums
 pub mod Addends
 pub mod Divisions

@@ -1,10 +1,12 @@
 -- A number in range that is not zero: its digits and its exponent. Assumes nothing.
 use mathlib.Core.Path.{_≡_, refl, ap}
-use mathlib.Core.Logic.{inl, inr}
+use mathlib.Core.Logic.{inl, inr, ⊎-elim}
 use Prim.Native.Nat.{ℕ, suc, _+_, _^_, _≤_, _<_}
+use native.Mathlib.Omega.{arith}
+use lib.Dec.{lit≤}
 use Rattle.sheet.specs.declared.Sheet.{Sheet}
 use Rattle.sheet.specs.Number.{bias, plainZero, signed, negateSheet, Normal}
-use Rattle.sheet.specs.Range.{Exponent, Within}
+use Rattle.sheet.specs.Range.{Exponent, Within, InRange}
 
 pub bias-is : bias ≡ 262144
 unfolding bias
@@ -26,6 +28,11 @@ live v lo hi s w n = go (w .normal) (w .exponent)
     go (inl z) x = absurd (none z)
     go (inr d) (inl z) = absurd (none z)
     go (inr d) (inr x) = record { full = d .low; small = d .high; low = x .0; high = x .1 }
+
+-- the place of a number in range leaves room for more
+pub place-room : {s : Sheet} → InRange s → s .e < 2 ^ 32
+unfolding bias
+place-room {s} h = ⊎-elim (λ z. rw z (lit≤ tt)) (λ b. omega arith) (h .exponent)
 
 -- the mirror of a number in range is in range
 pub negate-within : (v lo hi : ℕ) (s : Sheet) → Within v lo hi s → Within v lo hi (negateSheet s)

@@ -7,12 +7,13 @@ use Prim.Native.Nat.{ℕ, suc, _+_, _-_, _*_, _^_, _≤_, _<_}
 use native.Mathlib.Nat.{mul-pos, mul-le-mul-right, mul-sub, zero-mul, mul-comm}
 use native.Mathlib.Omega.{arith}
 use lib.Pow.{pow-add, pow-pos}
-use Rattle.exact.specs.Fraction.{nat, parts, _⊕_, _⊖_, _⊗_, _⊘_, _≺_, _≈_}
+use Rattle.exact.specs.Fraction.{nat, parts, _⊕_, _⊖_, _⊗_, _⊘_, _≼_, _≺_, _≈_}
 use Rattle.exact.specs.Fraction.Order.{≺-irrefl, ≼-not-≺, ≺-≈-trans, ≈-refl, ≈-sym, ≈-trans}
 use Rattle.exact.specs.Fraction.Sum.{⊕-comm, ⊕-cong, ⊖-is, ⊕-zero, zero-⊕}
 use Rattle.exact.specs.Fraction.Product.{⊗-cong, zero-⊗, ⊗-zero}
 use Rattle.exact.specs.Fraction.Quotient.{⊘-cong, zero-⊘}
-use Rattle.exact.specs.Fraction.Parts.{parts-⊗, parts-⊕, parts-⊕-less, parts-⊘, parts-pos, parts-nonpos, parts-nat, parts-zero}
+use Rattle.exact.specs.Fraction.Parts.{parts-⊗, parts-⊕, parts-⊕-less, parts-⊘, parts-pos, parts-nonpos, parts-neg, parts-nat, parts-zero}
+use Rattle.exact.specs.Fraction.Units.{≼-units}
 use Rattle.sheet.specs.declared.Sheet.{Sheet}
 use Rattle.sheet.specs.Magnitude.{roundMag}
 use Rattle.sheet.specs.Number.{bias, value, plainZero, signed, negateSheet, Spelled}
@@ -20,6 +21,7 @@ use Rattle.sheet.specs.Round.{away, round}
 use Rattle.sheet.specs.Range.{extent}
 use Rattle.sheet.proofs.Gaps.{zero-or-pos}
 use Rattle.sheet.proofs.Signed.{round-parts}
+use Rattle.sheet.proofs.Spelling.{extent-zero}
 use Rattle.sheet.proofs.Laws.{round-resp, round-value, round-nought, negate-value}
 
 -- no digits, no value
@@ -40,6 +42,22 @@ above-zero s h = (go (s .neg) refl, ⊎-elim (λ z. absurd (≺-irrefl (≺-≈-
 pub digits-pos : (s : Sheet) → s .neg ≡ false → 0 < s .m → nat 0 ≺ value s
 unfolding value
 digits-pos s n p = rw n (parts-pos (extent s) (2 ^ bias) (mul-pos p (pow-pos (s .e))))
+
+-- what is spelled and not below zero has no sign
+pub nonneg-plain : (v : ℕ) (s : Sheet) → Spelled v s → nat 0 ≼ value s → s .neg ≡ false
+unfolding value
+nonneg-plain v s p h = go (s .neg) refl
+  where
+    go : (n : Bool) → s .neg ≡ n → n ≡ false
+    go false e = refl
+    go true e =
+        ⊎-elim (λ z. sym e ∙ p .plain (extent-zero (s .m) (s .e) z))
+        (λ q. absurd (≼-not-≺ (rw e at h) (parts-neg (extent s) (2 ^ bias) q))) (zero-or-pos (extent s))
+
+-- numbers without a sign are ordered as their sizes are
+pub extent-order : (s t : Sheet) → s .neg ≡ false → t .neg ≡ false → value s ≼ value t → extent s ≤ extent t
+unfolding value
+extent-order s t a b h = ≼-units (extent s) (extent t) (2 ^ bias) (pow-pos bias) (rw (a, b) at h)
 
 -- ---- given values
 

@@ -2,5 +2,6 @@
 pub mod Magnitude
 pub mod Number
 pub mod Round
+pub mod Onward
 pub mod Range
 pub mod Steps

@@ -2,6 +2,7 @@
 // single ends, and given values. Every function's contract is the rule itself: down or up of the exact result. Assumes nothing.
 mod add; // add.rt: sum and difference
 mod divide; // divide.rt: the quotient
+mod further; // further.rt: the sheet number so many further on
 mod given; // given.rt: fractions and whole numbers
 mod multiply; // multiply.rt: the product
 mod order; // order.rt: comparison and negation
@@ -10,6 +11,7 @@ mod place; // place.rt: digits at a place are cut, opened and rounded
 pub use add::difference;
 pub use add::sum;
 pub use divide::quotient;
+pub use further::onward;
 pub use given::ratio;
 pub use given::whole;
 pub use multiply::product;

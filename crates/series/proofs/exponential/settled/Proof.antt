@@ -1,0 +1,44 @@
+-- `series::exponential::settled` meets its contract: where all its tests hold, they are what the law of the rest asks for. Assumes nothing.
+use mathlib.Core.Path.{sym, subst}
+use mathlib.Core.Bool.{false, false≢true}
+use Prim.Native.Nat.{_+_}
+use native.Mathlib.Omega.{arith}
+use borrow.Author.Needs.{needs}
+use Rattle.exact.specs.Fraction.{nat}
+use Rattle.sheet.specs.Number.{Spelled}
+use Rattle.sheet.proofs.Laws.{round-spelled}
+use Rattle.sheet.proofs.Live.{place-room}
+use Rattle.sheet.proofs.Spelling.{normal-spelled}
+use Rattle.series.proofs.ExponentialSteps.{term-held, settled-is}
+use Rattle.series.proofs.exponential.settled.Statement.{statement}
+use Rattle.series.proofs.exponential.settled.Tie as tie
+
+add-if1 : tie.Need-add-if1
+add-if1 c = let p = c .pre in omega (arith, place-room (term-held (p .1) (omega arith) (p .3) .hi))
+
+returns : tie.Need-returns
+returns c = λ z. absurd (false≢true z)
+
+returns-2 : tie.Need-returns-2
+returns-2 c = λ z. absurd (false≢true z)
+
+add-whole : tie.Need-add-whole
+add-whole c = search needs
+
+whole-requires : tie.Need-whole-requires
+whole-requires c κs = search needs
+
+at-most-requires : tie.Need-at-most-requires
+at-most-requires c κs =
+    let a = c .before .before .before in
+    (normal-spelled 31 (a .args .x .hi) (a .pre .0 .hi .normal), subst (Spelled 31) (sym (c .whole .ensures)) (round-spelled false 31 (nat (a .args .k + 1))))
+
+returns-3 : tie.Need-returns-3
+returns-3 c =
+    let p = c .before .before .before .before .pre in
+    settled-is (p .0) (p .1) (p .2) (p .3) (c .before .before .before .if1 .left) (c .before .before .if2 .left) (c .before .whole .ensures) (c .at-most .ensures)
+
+pub settled-spec : {M : Type 1} → statement M
+settled-spec =
+    tie.close
+    (tie.spec add-if1 returns returns-2 add-whole whole-requires at-most-requires returns-3)

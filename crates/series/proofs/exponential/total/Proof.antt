@@ -1,0 +1,89 @@
+-- `series::exponential::total` meets its contract. The loop's invariant: the state is the rule's term and sum to k. Assumes nothing.
+use mathlib.Core.Path.{_≡_, sym, _∙_}
+use Prim.Native.Nat.{_-_, _≤_}
+use native.Mathlib.Omega.{arith}
+use borrow.Author.Needs.{needs}
+use lib.Dec.{lit≤}
+use Rattle.bracket.specs.Rules.{ends}
+use Rattle.series.specs.Terms.{termsTo}
+use Rattle.series.proofs.ExponentialSteps.{term-held, sum-held, expTerm-first, expSum-first, total-last}
+use Rattle.series.proofs.exponential.total.Statement.{statement}
+use Rattle.series.proofs.exponential.total.Tie as tie
+
+abbrev Inv-loop : tie.InvT-loop
+Inv-loop x s₀ k₀ s k = (k ≤ 256) × (s ≡ termsTo (ends x) k)
+
+abbrev μ-loop : tie.MeasureT-loop
+μ-loop x s₀ k₀ s k = 256 - k
+
+whole-requires : tie.Need-whole-requires Inv-loop μ-loop
+whole-requires c κs = lit≤ tt
+
+loop-holds : tie.Need-loop-holds Inv-loop μ-loop
+loop-holds c =
+    let X = ends (c .before .args .x) in
+    let e = c .whole .ensures ∙ sym (expTerm-first 32 X) in
+    let f = c .whole .ensures ∙ sym (expSum-first 32 X) in
+    (omega arith, λ i. record { term = e i; sum = f i })
+
+settled-requires : tie.Need-settled-requires Inv-loop μ-loop
+settled-requires c κs =
+    let p = c .before .before .before .pre in
+    (p .0, p .1, c .loop-test .taken, c .before .loop .inv .1)
+
+sub-stretched : tie.Need-sub-stretched Inv-loop μ-loop
+sub-stretched c = search needs
+
+stretched-requires : tie.Need-stretched-requires Inv-loop μ-loop
+stretched-requires c κs =
+    let p = c .before .before .before .before .before .pre in
+    let i = c .before .before .before .loop .inv in
+    (sum-held (p .1) (i .0) (i .1), omega arith)
+
+returns : tie.Need-returns Inv-loop μ-loop
+returns c = c .stretched .ensures ∙ sym (c .before .before .settled .ensures (c .before .if1 .taken))
+
+one-more-requires : tie.Need-one-more-requires Inv-loop μ-loop
+one-more-requires c κs =
+    let p = c .before .before .before .before .before .pre in
+    (p .0, p .1, c .before .before .loop-test .taken, c .before .before .before .loop .inv .1)
+
+add-k : tie.Need-add-k Inv-loop μ-loop
+add-k c = search needs
+
+loop-less : tie.Need-loop-less Inv-loop μ-loop
+loop-less c = search needs
+
+loop-again : tie.Need-loop-again Inv-loop μ-loop
+loop-again c = (omega arith, c .one-more .ensures)
+
+add-last-requires : tie.Need-add-last-requires Inv-loop μ-loop
+add-last-requires c κs =
+    let f = c .before .before .before .pre .1 in
+    let i = c .before .loop .inv in
+    (sum-held f (i .0) (i .1), term-held f (i .0) (i .1))
+
+returns-2 : tie.Need-returns-2 Inv-loop μ-loop
+returns-2 c =
+    let X = ends (c .before .before .before .before .args .x) in
+    let i = c .before .before .loop .inv in
+    total-last X (c .before .before .loop .k) (i .0) (c .before .loop-test .left) (i .1) (c .add-last .ensures)
+
+pub total-spec : {M : Type 1} → statement M
+total-spec =
+    tie.close
+    (tie.spec
+    Inv-loop
+    μ-loop
+    whole-requires
+    loop-holds
+    settled-requires
+    sub-stretched
+    stretched-requires
+    returns
+    one-more-requires
+    add-k
+    loop-less
+    loop-again
+    add-last-requires
+    returns-2)
