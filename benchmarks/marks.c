@@ -8,7 +8,7 @@
 #include "measure.h"
 #include "mpfr_equation.h"
 
-enum { BIAS = 262144, OPERANDS = 512, DENSITIES = 16, ROWS = 38, ROW = 9, PAIRS = 1000 };
+enum { BIAS = 262144, OPERANDS = 512, DENSITIES = 16, ARGUMENTS = 3 * DENSITIES, ROWS = 38, ROW = 9, PAIRS = 1000 };
 
 /* A number's digits and place, which both sides add up over all results. */
 static uint64_t digits_and_place(mpfr_srcptr x)
@@ -85,13 +85,15 @@ static void measure_singles(void)
                                    {2, 0, mpfr_mul}, {2, 1, mpfr_mul}, {3, 0, mpfr_div}, {3, 1, mpfr_div}};
     make_operands();
     for (size_t i = 0; i < sizeof kinds / sizeof *kinds; i++)
-        measure(&(work){names[i], OPERANDS, library_single, peer_single, &kinds[i]});
+        measure(&(work){names[i], OPERANDS, library_single, peer_single, 0, &kinds[i]});
 }
 
-/* Exponentials of minus delta squared, over densities from 1/1024 to 1288. */
+/* Exponentials of minus delta, delta squared and delta cubed, at densities even from one to another. */
 
-static bracket squares[DENSITIES];
-static uint64_t square_words[6 * DENSITIES];
+typedef struct {
+    bracket powers[ARGUMENTS];
+    uint64_t words[6 * ARGUMENTS];
+} arguments;
 
 static void make_end(uint64_t *w, mpfr_srcptr x)
 {
@@ -101,44 +103,61 @@ static void make_end(uint64_t *w, mpfr_srcptr x)
     w[2] = mpfr_get_exp(x) - BITS + BIAS;
 }
 
-static void make_squares(void)
+static void make_arguments(arguments *a, double from, double to)
 {
     BRACKET(given);
     BRACKET(critical);
     BRACKET(delta);
     peer_whole(&critical, 322);
-    for (int i = 0; i < DENSITIES; i++) {
-        peer_given(&given, i ? 1288.0 * i / (DENSITIES - 1) : 1.0 / 1024);
+    for (int i = 0; i < ARGUMENTS; i++) {
+        peer_given(&given, from + (to - from) * (i / 3) / (DENSITIES - 1));
         peer_quotient(&delta, &given, &critical);
-        peer_ready(&squares[i]);
-        peer_power(&squares[i], &delta, 2);
-        make_end(square_words + 6 * i, squares[i].lo);
-        make_end(square_words + 6 * i + 3, squares[i].hi);
+        peer_ready(&a->powers[i]);
+        peer_power(&a->powers[i], &delta, 1 + i % 3);
+        make_end(a->words + 6 * i, a->powers[i].lo);
+        make_end(a->words + 6 * i + 3, a->powers[i].hi);
     }
 }
 
-static uint64_t library_exponential(const void *argument)
+static uint64_t library_exponentials(const void *argument)
 {
-    (void)argument;
-    return marks_exponential(square_words, 6 * DENSITIES);
+    const arguments *a = argument;
+    return marks_exponential(a->words, 6 * ARGUMENTS);
 }
 
 static uint64_t peer_exponentials(const void *argument)
 {
-    (void)argument;
+    const arguments *a = argument;
     uint64_t total = 0;
     BRACKET(r);
-    for (int i = 0; i < DENSITIES; i++) {
-        peer_exponential(&r, &squares[i]);
+    for (int i = 0; i < ARGUMENTS; i++) {
+        peer_exponential(&r, &a->powers[i]);
         total += digits_and_place(r.lo) + digits_and_place(r.hi);
     }
     return total;
 }
 
+/* The same peer, with the stop. */
+static uint64_t stopping(uint64_t (*peer)(const void *), const void *argument)
+{
+    peer_stops = 1;
+    uint64_t total = peer(argument);
+    peer_stops = 0;
+    return total;
+}
+
+static uint64_t stopping_exponentials(const void *argument)
+{
+    return stopping(peer_exponentials, argument);
+}
+
 static void measure_exponentials(void)
 {
-    make_squares();
-    measure(&(work){"exponential", DENSITIES, library_exponential, peer_exponentials, 0});
+    static arguments thin, dense;
+    make_arguments(&thin, 1.0 / 1024, 322.0);
+    make_arguments(&dense, 322.0, 1287.0); /* the loops of crates/marks take x below 64 */
+    measure(&(work){"exponential, up to 322 kg/m3", ARGUMENTS, library_exponentials, peer_exponentials, stopping_exponentials, &thin});
+    measure(&(work){"exponential, from 322 kg/m3", ARGUMENTS, library_exponentials, peer_exponentials, stopping_exponentials, &dense});
 }
 
 /* One state: thin steam, so that every table's answer is a pressure under the ceiling. */
@@ -174,6 +193,11 @@ static uint64_t peer_state_bits(const void *argument)
     return bits_of(r.pressure[0]);
 }
 
+static uint64_t stopping_state_bits(const void *argument)
+{
+    return stopping(peer_state_bits, argument);
+}
+
 static void measure_states(void)
 {
     static const size_t counts[] = {1, 8, 38, 64};
@@ -181,7 +205,7 @@ static void measure_states(void)
         packed t = of_terms(counts[i]);
         char name[32];
         snprintf(name, sizeof name, "one state, %zu term%s", counts[i], counts[i] == 1 ? "" : "s");
-        measure(&(work){name, 1, wb_state ? library_state : 0, peer_state_bits, &t});
+        measure(&(work){name, 1, wb_state ? library_state : 0, peer_state_bits, stopping_state_bits, &t});
     }
 }
 
@@ -211,11 +235,16 @@ static uint64_t peer_pairs(const void *argument)
     return total;
 }
 
+static uint64_t stopping_pairs(const void *argument)
+{
+    return stopping(peer_pairs, argument);
+}
+
 static void measure_pairs(void)
 {
     static const size_t counts[] = {1, PAIRS};
-    measure(&(work){"one pair, 38 terms", 1, wb_pair ? library_pairs : 0, peer_pairs, &counts[0]});
-    measure(&(work){"one of 1,000 pairs", PAIRS, wb_pair ? library_pairs : 0, peer_pairs, &counts[1]});
+    measure(&(work){"one pair, 38 terms", 1, wb_pair ? library_pairs : 0, peer_pairs, stopping_pairs, &counts[0]});
+    measure(&(work){"one of 1,000 pairs", PAIRS, wb_pair ? library_pairs : 0, peer_pairs, stopping_pairs, &counts[1]});
 }
 
 static size_t read_file(const char *name, void *to, size_t most)

@@ -1,4 +1,4 @@
-/* Timing of two sides in turn (measure.h).  Time is the processor's, so that other programs on the machine count little. */
+/* Timing of several sides in turn (measure.h).  Time is the processor's, so that other programs on the machine count little. */
 #define _POSIX_C_SOURCE 199309L
 #include <stdio.h>
 #include <stdlib.h>
@@ -46,25 +46,42 @@ static void settle(side *s, const void *argument)
 
 void measure_heading(void)
 {
-    printf("%-32s %14s %14s %8s\n", "", "library, ns", "MPFR, ns", "ratio");
+    printf("%-30s %12s %12s %6s %16s %6s\n", "", "library, ns", "MPFR, ns", "ratio", "MPFR stops, ns", "ratio");
+}
+
+/* A peer's time and what the library takes of it. */
+static void print_peer(const work *w, const side *library, const side *peer, int width)
+{
+    if (!peer->call)
+        printf(" %*s %6s", width, "-", "-");
+    else if (!library->call)
+        printf(" %*.1f %6s", width, peer->best / w->operations, "-");
+    else
+        printf(" %*.1f %6.3f", width, peer->best / w->operations, library->best / peer->best);
 }
 
 void measure(const work *w)
 {
-    side library = {w->library, 1, 1e300, 0}, peer = {w->peer, 1, 1e300, 0};
-    settle(&library, w->argument);
-    settle(&peer, w->argument);
-    if (library.call && library.result != peer.result) {
-        printf("%s: the two sides differ\n", w->name);
-        exit(1);
+    side library = {w->library, 1, 1e300, 0}, peer = {w->peer, 1, 1e300, 0}, stopping = {w->stopping, 1, 1e300, 0};
+    side *const sides[] = {&library, &peer, &stopping};
+    for (int i = 0; i < 3; i++) {
+        settle(sides[i], w->argument);
+        if (sides[i]->call && library.call && sides[i]->result != library.result) {
+            printf("%s: the sides differ\n", w->name);
+            exit(1);
+        }
     }
     double spent = 0;
     for (int i = 1; i < LEAST || (i < MOST && spent < ENOUGH); i++)
-        spent += stretch(&library, w->argument) + stretch(&peer, w->argument);
-    printf("%-32s ", w->name);
+        for (int k = 0; k < 3; k++)
+            spent += stretch(sides[k], w->argument);
+    printf("%-30s ", w->name);
     if (library.call)
-        printf("%14.1f %14.1f %8.2f\n", library.best / w->operations, peer.best / w->operations, library.best / peer.best);
+        printf("%12.1f", library.best / w->operations);
     else
-        printf("%14s %14.1f %8s\n", "not yet", peer.best / w->operations, "-");
+        printf("%12s", "not yet");
+    print_peer(w, &library, &peer, 12);
+    print_peer(w, &library, &stopping, 16);
+    printf("\n");
     fflush(stdout);
 }

@@ -29,6 +29,9 @@ void peer_product(bracket *r, const bracket *a, const bracket *b);
 void peer_quotient(bracket *r, const bracket *a, const bracket *b);
 void peer_power(bracket *r, const bracket *b, unsigned n);
 
+/* Whether the exponential takes the rest of its series at once, as the library does; else it goes all 256 steps. */
+extern int peer_stops;
+
 /* The exponential of minus x, and the logarithm of liquid over vapour. */
 void peer_exponential(bracket *r, const bracket *x);
 void peer_logarithm(bracket *r, double liquid, double vapour);

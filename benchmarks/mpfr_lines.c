@@ -1,5 +1,6 @@
-/* The MPFR peer as a program of the comparison: mpfr_lines NAME answers the records of tests/gen_NAME.py, for single,
-   brackets, series, states and pairs, so that tests/compare can hold it to the second program.
+/* The MPFR peer as a program of the comparison: mpfr_lines NAME [stop] answers the records of tests/gen_NAME.py, for single,
+   brackets, series, states and pairs, so that tests/compare can hold it to the second program; `stop` has the exponential take
+   the rest of its series at once.
    Assumes whole records, as tests/stream.py describes them. */
 #include <stdio.h>
 #include <stdlib.h>
@@ -190,13 +191,14 @@ int main(int count, char **arguments)
         void (*answer)(uint64_t);
     } kinds[] = {{"single", answer_single}, {"brackets", answer_brackets}, {"series", answer_series},
                  {"states", answer_state}, {"pairs", answer_pair}};
-    for (size_t i = 0; count == 2 && i < sizeof kinds / sizeof *kinds; i++) {
+    peer_stops = count == 3 && strcmp(arguments[2], "stop") == 0;
+    for (size_t i = 0; count == 2 + peer_stops && i < sizeof kinds / sizeof *kinds; i++) {
         if (strcmp(arguments[1], kinds[i].name) != 0)
             continue;
         for (uint64_t first; next_word(&first); end_line())
             kinds[i].answer(first);
         return 0;
     }
-    fputs("usage: mpfr_lines single|brackets|series|states|pairs\n", stderr);
+    fputs("usage: mpfr_lines single|brackets|series|states|pairs [stop]\n", stderr);
     return 2;
 }

@@ -14,23 +14,53 @@ static void add_last(bracket *total, const bracket *last)
     mpfr_add(total->hi, total->hi, last->hi, MPFR_RNDU);
 }
 
+int peer_stops = 0;
+
+/* Whether each step from here on leaves the sum's lower end where it is and moves its upper end to the next number: the terms are
+   above zero, do not grow any more, and lie below one unit of the sum's last place. */
+static int settled(const bracket *x, const bracket *term, const bracket *total, unsigned k)
+{
+    return mpfr_sgn(x->hi) > 0 && mpfr_get_exp(term->hi) + BITS < mpfr_get_exp(total->lo) && mpfr_cmp_ui(x->hi, k + 1) <= 0;
+}
+
+/* The upper end goes n numbers on.  Its digits stand at the top of 64 bits; past the greatest of them comes the least, one place up. */
+static void stretch(bracket *b, unsigned n)
+{
+    mp_limb_t before = b->digits[1];
+    b->digits[1] += (mp_limb_t)n << (64 - BITS);
+    if (b->digits[1] < before) {
+        b->digits[1] |= (mp_limb_t)1 << 63;
+        mpfr_set_exp(b->hi, mpfr_get_exp(b->hi) + 1);
+    }
+}
+
+/* The terms to 256, the last one's upper end twice. */
+static void sum_of_terms(bracket *total, const bracket *x)
+{
+    BRACKET(term);
+    BRACKET(power);
+    BRACKET(count);
+    peer_whole(&term, 1);
+    peer_whole(total, 1);
+    for (unsigned k = 0; k < 256; k++) {
+        if (peer_stops && settled(x, &term, total, k)) {
+            stretch(total, 257 - k);
+            return;
+        }
+        peer_product(&power, &term, x);
+        peer_whole(&count, k + 1);
+        peer_quotient(&term, &power, &count);
+        peer_sum(total, total, &term);
+    }
+    add_last(total, &term);
+}
+
 void peer_exponential(bracket *r, const bracket *x)
 {
     BRACKET(one);
-    BRACKET(term);
     BRACKET(total);
-    BRACKET(power);
-    BRACKET(count);
     peer_whole(&one, 1);
-    peer_whole(&term, 1);
-    peer_whole(&total, 1);
-    for (unsigned k = 1; k <= 256; k++) {
-        peer_product(&power, &term, x);
-        peer_whole(&count, k);
-        peer_quotient(&term, &power, &count);
-        peer_sum(&total, &total, &term);
-    }
-    add_last(&total, &term);
+    sum_of_terms(&total, x);
     peer_quotient(r, &one, &total);
 }
 

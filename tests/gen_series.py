@@ -1,4 +1,4 @@
-"""Exponentials and logarithms, 300 of each (fields as in stream.py).  Assumes the seed below.
+"""Exponentials and logarithms, 350 of each (fields as in stream.py).  Assumes the seed below.
 
 Record, 7 words: kind, then six words.
   0  the exponential of minus x: x (6), with 0 <= lower end and upper end <= 128
@@ -9,16 +9,16 @@ Line, 6 words: the bracket of the result.
 from random import Random
 
 from second import f64
-from second.bracket import given, whole
+from second.bracket import Bracket, given, whole
 from second.equation import CRITICAL_DENSITY
 from second.exact import at_most
 from second.exponential import exponential_of_minus
-from second.logarithm import logarithm_of_ratio
-from second.sheet import ZERO
+from second.logarithm import ln_2, logarithm_of_ratio
+from second.sheet import ZERO, down
 from second.tests import samples
 from stream import record, run_of, words_of_bracket
 
-EACH = 300
+EACH = 350
 W = f64.word
 THINNEST, DENSEST, DIVIDE = W(2.0 ** -10), W(1288.0), W(322.0)
 
@@ -28,9 +28,19 @@ def delta_power(density, c):
     return (given(32, *f64.exact(density)) / CRITICAL_DENSITY) ** c
 
 
+def under_powers_of_two():
+    """Just below multiples of ln 2: the series' sum ends near a power of two, and its upper end mostly passes it on the last steps."""
+    m, e = ln_2(64).lower
+    for n in range(1, 93, 2):
+        digits, place = down(32, n * m, 1, e)
+        x = (digits - 2, place)
+        yield Bracket(32, x, x)
+
+
 def arguments(random):
     """The ends of the range first, then delta^c over all densities, narrow and wide brackets, some from zero."""
     yield from (whole(32, x) for x in (0, 64, 128, 1))
+    yield from under_powers_of_two()
     yield from (delta_power(density, c) for density in (THINNEST, DENSEST, DIVIDE) for c in (1, 2, 3))
     while True:
         yield delta_power(samples.density(random), random.randint(1, 3))

@@ -1,6 +1,6 @@
 -- The rest of the exponential's sum at once: from where a term lies below one unit of the last place of the sum's lower end, and the terms
 -- no longer grow, every step leaves the lower end where it is and moves the upper end one sheet number on. Assumes nothing.
-use mathlib.Core.Path.{_≡_, refl, sym, ap, _∙_, subst}
+use mathlib.Core.Path.{_≡_, sym, ap, _∙_, subst}
 use mathlib.Core.Bool.{true, false}
 use Prim.Native.Nat.{ℕ, zero, suc, _+_, _-_, _^_, _≤_, _<_}
 use native.Mathlib.Nat.{le-trans, lt-of-le-of-lt, zero-lt-suc}
@@ -8,7 +8,7 @@ use native.Mathlib.Omega.{arith}
 use lib.Dec.{lit≤}
 use lib.Pow.{pow-lt, pow-mono}
 use Rattle.exact.specs.Fraction.{nat, _⊗_, _⊘_, _≼_, _≺_}
-use Rattle.exact.specs.Fraction.Order.{≼-trans, ≼-refl, ≺→≼, ≺-≼-trans, ≼-≈-trans, ≈-≼-trans, ≈-sym}
+use Rattle.exact.specs.Fraction.Order.{≼-trans, ≼-refl, ≺-≼-trans, ≼-≈-trans, ≈-≼-trans, ≈-sym}
 use Rattle.exact.specs.Fraction.Product.{⊗-mono, ⊗-pos, ⊗-nonneg}
 use Rattle.exact.specs.Fraction.Quotient.{⊘-pos, ⊘-≼}
 use Rattle.exact.specs.Fraction.Parts.{nat-pos, nat-nonneg, nat-≼}

@@ -1,15 +1,13 @@
 -- Sheet numbers further on: where the digits and the place stand n steps on, and what a small addend does to a sum: down leaves it where it
 -- is, up moves it to the next sheet number. Assumes nothing.
-use mathlib.Core.Path.{_≡_, refl, sym, ap, _∙_}
+use mathlib.Core.Path.{_≡_, sym, ap, _∙_}
 use mathlib.Core.Logic.{⊎-elim}
 use mathlib.Core.Bool.{Bool, true, false}
-use Prim.Native.Nat.{ℕ, zero, suc, _+_, _-_, _*_, _/_, _^_, _≤_, _<_}
-use native.Mathlib.Nat.{le-refl, le-trans}
+use Prim.Native.Nat.{ℕ, zero, suc, _+_, _-_, _^_, _≤_, _<_}
 use native.Mathlib.Omega.{arith}
-use lib.Dec.{eqb}
 use Rattle.exact.specs.Fraction.{_⊕_}
 use Rattle.sheet.specs.declared.Sheet.{Sheet}
-use Rattle.sheet.specs.Magnitude.{Magnitude, Place, Cut, pick, finish, next, roundMag}
+use Rattle.sheet.specs.Magnitude.{Place, Cut, finish, next, roundMag}
 use Rattle.sheet.specs.Number.{value, signed, Spelled}
 use Rattle.sheet.specs.Round.{away, round, down, up}
 use Rattle.sheet.specs.Range.{extent}
@@ -46,30 +44,16 @@ module _ (v : ℕ) (s t : Sheet) (p : Spelled v s) (a : s .neg ≡ false) (b : t
 
 -- ---- n steps on
 
--- the place does not fall
-next-place : (w : ℕ) (x : Magnitude) → x .e ≤ (next w x) .e
-unfolding next
-next-place w x = go (eqb (x .m + 1) (2 ^ w))
-  where
-    go : (b : Bool) → x .e ≤ (pick b (record { m = 2 ^ w / 2; e = x .e + 1 }) (record { m = x .m + 1; e = x .e })) .e
-    go true = omega arith
-    go false = le-refl (x .e)
-
-pub onward-place : (w n : ℕ) (s : Sheet) → s .e ≤ (onward w n s) .e
-unfolding onward
-onward-place w zero s = le-refl (s .e)
-onward-place w (suc n) s =
-    let t = onward w n s in
-    le-trans (onward-place w n s) (next-place w (record { m = t .m; e = t .e }))
+abbrev at : Sheet → ℕ → ℕ → Sheet
+at s e m = record { neg = s .neg; m = m; e = e }
 
 -- while the digits are enough they count the steps
 pub onward-plain : (v n : ℕ) (s : Sheet) → s .m + n < 2 ^ suc v → onward (suc v) n s ≡ record { neg = s .neg; m = s .m + n; e = s .e }
 unfolding onward
-onward-plain v zero s h = λ i. record { neg = s .neg; m = (let z : s .m ≡ s .m + 0 = omega arith in z) i; e = s .e }
+onward-plain v zero s h = ap (at s (s .e)) (omega arith)
 onward-plain v (suc n) s h =
     ap (nextSheet (suc v)) (onward-plain v n s (omega arith))
-    ∙ rw (next-plain (suc v) (s .m + n) (s .e) (λ z. omega arith))
-    (λ i. record { neg = s .neg; m = (let z : s .m + n + 1 ≡ s .m + suc n = omega arith in z) i; e = s .e })
+    ∙ rw (next-plain (suc v) (s .m + n) (s .e) (λ z. omega arith)) (ap (at s (s .e)) (omega arith))
 
 -- past the greatest of them they start again one place up, and are enough for 2^v steps
 pub onward-carry : (v n : ℕ) (s : Sheet) → s .m < 2 ^ suc v → n ≤ 2 ^ v → 2 ^ suc v ≤ s .m + n
@@ -79,13 +63,13 @@ onward-carry v zero s small few h = absurd (omega arith)
 onward-carry v (suc n) s small few h =
     ⊎-elim (λ l. later l (onward-carry v n s small (omega arith) l)) first (le-or-lt (2 ^ suc v) (s .m + n))
   where
-    at : ℕ → Sheet
-    at m = record { neg = s .neg; m = m; e = s .e + 1 }
+    here : ℕ → Sheet
+    here m = at s (s .e + 1) m
 
-    later : 2 ^ suc v ≤ s .m + n → onward (suc v) n s ≡ at (s .m + n - 2 ^ v) → nextSheet (suc v) (onward (suc v) n s) ≡ at (s .m + suc n - 2 ^ v)
+    later : 2 ^ suc v ≤ s .m + n → onward (suc v) n s ≡ here (s .m + n - 2 ^ v) → nextSheet (suc v) (onward (suc v) n s) ≡ here (s .m + suc n - 2 ^ v)
     later l e =
-        ap (nextSheet (suc v)) e ∙ rw (next-plain (suc v) (s .m + n - 2 ^ v) (s .e + 1) (λ z. omega arith)) (ap at (omega arith))
+        ap (nextSheet (suc v)) e ∙ rw (next-plain (suc v) (s .m + n - 2 ^ v) (s .e + 1) (λ z. omega arith)) (ap here (omega arith))
 
-    first : s .m + n < 2 ^ suc v → nextSheet (suc v) (onward (suc v) n s) ≡ at (s .m + suc n - 2 ^ v)
+    first : s .m + n < 2 ^ suc v → nextSheet (suc v) (onward (suc v) n s) ≡ here (s .m + suc n - 2 ^ v)
     first l =
-        ap (nextSheet (suc v)) (onward-plain v n s l) ∙ rw (next-carry (suc v) (s .m + n) (s .e) (omega arith)) (ap at (omega arith))
+        ap (nextSheet (suc v)) (onward-plain v n s l) ∙ rw (next-carry (suc v) (s .m + n) (s .e) (omega arith)) (ap here (omega arith))

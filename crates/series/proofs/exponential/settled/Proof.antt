@@ -1,10 +1,8 @@
 -- `series::exponential::settled` meets its contract: where all its tests hold, they are what the law of the rest asks for. Assumes nothing.
 use mathlib.Core.Path.{sym, subst}
 use mathlib.Core.Bool.{false, false≢true}
-use Prim.Native.Nat.{_+_}
 use native.Mathlib.Omega.{arith}
 use borrow.Author.Needs.{needs}
-use Rattle.exact.specs.Fraction.{nat}
 use Rattle.sheet.specs.Number.{Spelled}
 use Rattle.sheet.proofs.Laws.{round-spelled}
 use Rattle.sheet.proofs.Live.{place-room}
@@ -31,7 +29,7 @@ whole-requires c κs = search needs
 at-most-requires : tie.Need-at-most-requires
 at-most-requires c κs =
     let a = c .before .before .before in
-    (normal-spelled 31 (a .args .x .hi) (a .pre .0 .hi .normal), subst (Spelled 31) (sym (c .whole .ensures)) (round-spelled false 31 (nat (a .args .k + 1))))
+    (normal-spelled 31 (a .args .x .hi) (a .pre .0 .hi .normal), subst (Spelled 31) (sym (c .whole .ensures)) (round-spelled false 31 _))
 
 returns-3 : tie.Need-returns-3
 returns-3 c =

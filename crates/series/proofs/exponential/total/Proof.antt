@@ -29,7 +29,7 @@ loop-holds c =
 settled-requires : tie.Need-settled-requires Inv-loop μ-loop
 settled-requires c κs =
     let p = c .before .before .before .pre in
-    (p .0, p .1, c .loop-test .taken, c .before .loop .inv .1)
+    (p .0, p .1, omega arith, c .before .loop .inv .1)
 
 sub-stretched : tie.Need-sub-stretched Inv-loop μ-loop
 sub-stretched c = search needs
@@ -46,7 +46,7 @@ returns c = c .stretched .ensures ∙ sym (c .before .before .settled .ensures (
 one-more-requires : tie.Need-one-more-requires Inv-loop μ-loop
 one-more-requires c κs =
     let p = c .before .before .before .before .before .pre in
-    (p .0, p .1, c .before .before .loop-test .taken, c .before .before .before .loop .inv .1)
+    (p .0, p .1, omega arith, c .before .before .before .loop .inv .1)
 
 add-k : tie.Need-add-k Inv-loop μ-loop
 add-k c = search needs
@@ -61,7 +61,9 @@ add-last-requires : tie.Need-add-last-requires Inv-loop μ-loop
 add-last-requires c κs =
     let f = c .before .before .before .pre .1 in
     let i = c .before .loop .inv in
-    (sum-held f (i .0) (i .1), term-held f (i .0) (i .1))
+    let s = sum-held f (i .0) (i .1) in
+    let t = term-held f (i .0) (i .1) in
+    search needs
 
 returns-2 : tie.Need-returns-2 Inv-loop μ-loop
 returns-2 c =

@@ -1,0 +1,43 @@
+#!/usr/bin/env python3
+"""steps.py: how many of the exponential's 256 steps are taken before the rest of its sum is taken at once, by density and c.
+
+Prints a table of docs/PERFORMANCE.md.  The brackets are the second program's; the test is the library's, on the places and
+digits that these brackets have.  Assumes Python 3.9 and nothing of the current directory.
+"""
+
+import os
+import sys
+
+sys.path.insert(0, os.path.dirname(os.path.dirname(os.path.abspath(__file__))))
+
+from second import f64, sheet  # noqa: E402
+from second.bracket import given, whole  # noqa: E402
+from second.equation import CRITICAL_DENSITY  # noqa: E402
+from second.exact import at_most  # noqa: E402
+
+BITS, LAST = 32, 256
+DENSITIES = (2.0 ** -10, 0.01, 0.1, 1.0, 10.0, 100.0, 322.0, 500.0, 750.0, 1000.0, 1100.0, 1200.0, 1288.0)
+
+
+def settled(x, term, total, k):
+    """Whether every step from here on only moves the sum's upper end to the next sheet number."""
+    (m, _), (_, place), (_, last_place) = x.upper, term.upper, total.lower
+    return m > 0 and place + BITS < last_place and at_most(sheet.exact(x.upper), (k + 1, 1, 0))
+
+
+def steps(x):
+    term = total = whole(BITS, 1)
+    for k in range(LAST):
+        if settled(x, term, total, k):
+            return k
+        term = (term * x) / (k + 1)
+        total = total + term
+    return LAST
+
+
+if __name__ == "__main__":
+    print("| density, kg/m3 | c = 1 | c = 2 | c = 3 |\n|---|---|---|---|")
+    for density in DENSITIES:
+        delta = given(BITS, *f64.exact(f64.word(density))) / CRITICAL_DENSITY
+        name = "1/1024" if density == 2.0 ** -10 else "%g" % density
+        print("| %s | %d | %d | %d |" % (name, *(steps(delta ** c) for c in (1, 2, 3))))
