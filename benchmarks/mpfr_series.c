@@ -18,7 +18,7 @@ int peer_stops = 0;
 
 /* Whether each step from here on leaves the sum's lower end where it is and moves its upper end to the next number: the terms are
    above zero, do not grow any more, and lie below one unit of the sum's last place. */
-static int settled(const bracket *x, const bracket *term, const bracket *total, unsigned k)
+static int only_stretches(const bracket *x, const bracket *term, const bracket *total, unsigned k)
 {
     return mpfr_sgn(x->hi) > 0 && mpfr_get_exp(term->hi) + BITS < mpfr_get_exp(total->lo) && mpfr_cmp_ui(x->hi, k + 1) <= 0;
 }
@@ -43,7 +43,7 @@ static void sum_of_terms(bracket *total, const bracket *x)
     peer_whole(&term, 1);
     peer_whole(total, 1);
     for (unsigned k = 0; k < 256; k++) {
-        if (peer_stops && settled(x, &term, total, k)) {
+        if (peer_stops && only_stretches(x, &term, total, k)) {
             stretch(total, 257 - k);
             return;
         }

@@ -19,7 +19,7 @@ BITS, LAST = 32, 256
 DENSITIES = (2.0 ** -10, 0.01, 0.1, 1.0, 10.0, 100.0, 322.0, 500.0, 750.0, 1000.0, 1100.0, 1200.0, 1288.0)
 
 
-def settled(x, term, total, k):
+def only_stretches(x, term, total, k):
     """Whether every step from here on only moves the sum's upper end to the next sheet number."""
     (m, _), (_, place), (_, last_place) = x.upper, term.upper, total.lower
     return m > 0 and place + BITS < last_place and at_most(sheet.exact(x.upper), (k + 1, 1, 0))
@@ -28,7 +28,7 @@ def settled(x, term, total, k):
 def steps(x):
     term = total = whole(BITS, 1)
     for k in range(LAST):
-        if settled(x, term, total, k):
+        if only_stretches(x, term, total, k):
             return k
         term = (term * x) / (k + 1)
         total = total + term

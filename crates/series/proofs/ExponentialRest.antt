@@ -32,7 +32,7 @@ use Rattle.series.proofs.ExponentialHeld.{expTerm-spelled, expSum-spell
 
 -- the terms after k are slight: X's upper end is above zero and at most k + 1, so that a power of two that bounds term k bounds every later
 -- one, and that power lies below one unit of the last place of the sum's lower end
-pub record Settled (v : ℕ) (X : Span) (k : ℕ) : Type 0 where
+pub record Stretching (v : ℕ) (X : Span) (k : ℕ) : Type 0 where
   pub some : nat 0 ≺ X .high
   pub falls : X .high ≼ nat (suc k)
   pub power : ℕ
@@ -83,7 +83,7 @@ module _ (v : ℕ) {X : Span} (o : Ordered X) (above : nat 0 ≼ X .low) where
       ≺-≼-trans (⊘-pos (nat (suc n)) (≺-≼-trans (⊗-pos (term-some some n) some) (corner-high true true _⊗_ v A X)))
       (corner-high true true _⊘_ v P (whole (suc n)))
 
-  module _ (w : 8 ≤ v) {k : ℕ} (s : Settled v X k) where
+  module _ (w : 8 ≤ v) {k : ℕ} (s : Stretching v X k) where
     abbrev S : Bracket
     S = expSum (suc v) X k
 

@@ -30,7 +30,7 @@ use Rattle.series.proofs.Units.{unit-part, unit-nat, unit-pos}
 use Rattle.series.proofs.ExponentialHeld as held
 use Rattle.series.proofs.ExponentialHeld.{expTerm-held, expSum-held, expProduct-held, expTotal-held, total-ordered, expTerm-spelled}
 use Rattle.series.proofs.ExponentialCovers.{expTerm-above}
-use Rattle.series.proofs.ExponentialRest.{Settled, total-rest}
+use Rattle.series.proofs.ExponentialRest.{Stretching, total-rest}
 use Rattle.series.proofs.Fits.{value-under}
 use Rattle.measure.proofs.Lift.{each-map}
 use Rattle.measure.proofs.Measure.{sized-in}
@@ -101,22 +101,22 @@ module _ {X : Span} (f : Taken X) {k : ℕ} {s : Terms} (h : k ≤ 256) (e : s �
   product-held i =
       held-as (i ∙ ap (λ (s : Terms). times 32 (ends (s .term)) X) e) (expProduct-held f k h)
 
--- ---- where the sum is settled: the tests on places and digits are what the law asks for
+-- ---- where the sum only stretches: the tests on places and digits are what the law asks for
 high-some : {x : Bracket} → Held x → Taken (ends x) → (x .hi .m ≡ 0 → ⊥) → nat 0 ≺ value (x .hi)
 high-some {x} held f n =
     digits-pos (x .hi) (nonneg-plain 31 (x .hi) (normal-spelled 31 (x .hi) (held .hi .normal)) (≼-trans (f .above) (f .order)))
     (⊎-elim (λ z. absurd (n z)) (λ p. p) (zero-or-pos (x .hi .m)))
 
 module _ {x : Bracket} (held : Held x) (f : Taken (ends x)) {k : ℕ} {s : Terms} (h : k < 256) (e : s ≡ termsTo (ends x) k) where
-  pub settled-is : {w : Sheet} {r : Bool} → s .term .hi .e + 32 < s .sum .lo .e → (x .hi .m ≡ 0 → ⊥) → w ≡ round false 32 (nat (k + 1))
+  pub stretches-is : {w : Sheet} {r : Bool} → s .term .hi .e + 32 < s .sum .lo .e → (x .hi .m ≡ 0 → ⊥) → w ≡ round false 32 (nat (k + 1))
       → r ≡ leq (value (x .hi)) (value w) → r ≡ true → expTotal 32 (ends x) ≡ stretched 32 (257 - k) (s .sum)
-  settled-is {w} {r} l n d i z =
+  stretches-is {w} {r} l n d i z =
       let X = ends x in
       let o : Ordered X = record { order = f .order } in
       let t = expTerm 32 X k .hi in
       let whole : value w ≈ nat (k + 1) = subst (λ (y : Sheet). value y ≈ nat (k + 1)) (sym d) (round-whole false 31 (k + 1) (omega arith)) in
       let most : X .high ≼ nat (k + 1) = ≼-≈-trans (leq-true (value (x .hi)) (value w) (sym i ∙ z)) whole in
-      let c : Settled 31 X k =
+      let c : Stretching 31 X k =
       record {
         some = high-some held f n;
         falls = subst (λ (j : ℕ). X .high ≼ nat j) (add-one k) most;

@@ -29,17 +29,17 @@ fn one_more(x: Bracket, s: Terms, k: u64) -> Terms
 // Whether every step from here on only moves the sum's upper end to the next sheet number: the terms are above zero and no longer grow, and
 // the power of two above term k lies below one unit of the sum's last place. Each term to come takes such a step, and so does the last one
 // when it counts once more.
-fn settled(x: Bracket, s: Terms, k: u64) -> bool
+fn only_stretches(x: Bracket, s: Terms, k: u64) -> bool
     requires { ⌜ Held x × Taken (ends x) × (k < 256) × (s ≡ termsTo (ends x) k) ⌝ }
     ensures { λ r. ⌜ (r ≡ true → expTotal 32 (ends x) ≡ stretched 32 (257 - k) (s .sum)) ⌝ }
 {
-    let te = s.term.hi.e;
-    let se = s.sum.lo.e;
-    let xm = x.hi.m;
-    if se <= te + 32 {
+    let term_place = s.term.hi.e;
+    let sum_place = s.sum.lo.e;
+    let digits = x.hi.m;
+    if sum_place <= term_place + 32 {
         return false;
     }
-    if xm == 0 {
+    if digits == 0 {
         return false;
     }
     sheet::at_most(x.hi, sheet::whole(k + 1))
@@ -57,7 +57,7 @@ fn total(x: Bracket) -> Bracket
     };
     let mut k = 0;
     while k < 256 {
-        if settled(x, s, k) {
+        if only_stretches(x, s, k) {
             return bracket::stretched(s.sum, 257 - k);
         }
         s = one_more(x, s, k);

@@ -1,5 +1,5 @@
 // Sheet numbers of 32 bits (01, "Sheet numbers and brackets"): rounding, sum, difference, product, quotient, comparison and negation of
-// single ends, and given values. Every function's contract is the rule itself: down or up of the exact result. Assumes nothing.
+// single ends, given values, and the sheet number so many further on. Every function's contract is the rule itself. Assumes nothing.
 mod add; // add.rt: sum and difference
 mod divide; // divide.rt: the quotient
 mod further; // further.rt: the sheet number so many further on

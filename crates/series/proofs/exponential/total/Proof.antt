@@ -26,8 +26,8 @@ loop-holds c =
     let f = c .whole .ensures ∙ sym (expSum-first 32 X) in
     (omega arith, λ i. record { term = e i; sum = f i })
 
-settled-requires : tie.Need-settled-requires Inv-loop μ-loop
-settled-requires c κs =
+only-stretches-requires : tie.Need-only-stretches-requires Inv-loop μ-loop
+only-stretches-requires c κs =
     let p = c .before .before .before .pre in
     (p .0, p .1, omega arith, c .before .loop .inv .1)
 
@@ -41,7 +41,7 @@ stretched-requires c κs =
     (sum-held (p .1) (i .0) (i .1), omega arith)
 
 returns : tie.Need-returns Inv-loop μ-loop
-returns c = c .stretched .ensures ∙ sym (c .before .before .settled .ensures (c .before .if1 .taken))
+returns c = c .stretched .ensures ∙ sym (c .before .before .only-stretches .ensures (c .before .if1 .taken))
 
 one-more-requires : tie.Need-one-more-requires Inv-loop μ-loop
 one-more-requires c κs =
@@ -79,7 +79,7 @@ total-spec =
     μ-loop
     whole-requires
     loop-holds
-    settled-requires
+    only-stretches-requires
     sub-stretched
     stretched-requires
     returns

@@ -1,4 +1,4 @@
--- `series::exponential::settled` meets its contract: where all its tests hold, they are what the law of the rest asks for. Assumes nothing.
+-- `series::exponential::only_stretches` meets its contract: where all its tests hold, they are what the law of the rest asks for. Assumes nothing.
 use mathlib.Core.Path.{sym, subst}
 use mathlib.Core.Bool.{false, false≢true}
 use native.Mathlib.Omega.{arith}
@@ -7,9 +7,9 @@ use Rattle.sheet.specs.Number.{Spelled}
 use Rattle.sheet.proofs.Laws.{round-spelled}
 use Rattle.sheet.proofs.Live.{place-room}
 use Rattle.sheet.proofs.Spelling.{normal-spelled}
-use Rattle.series.proofs.ExponentialSteps.{term-held, settled-is}
-use Rattle.series.proofs.exponential.settled.Statement.{statement}
-use Rattle.series.proofs.exponential.settled.Tie as tie
+use Rattle.series.proofs.ExponentialSteps.{term-held, stretches-is}
+use Rattle.series.proofs.exponential.only_stretches.Statement.{statement}
+use Rattle.series.proofs.exponential.only_stretches.Tie as tie
 
 add-if1 : tie.Need-add-if1
 add-if1 c = let p = c .pre in omega (arith, place-room (term-held (p .1) (omega arith) (p .3) .hi))
@@ -34,9 +34,9 @@ at-most-requires c κs =
 returns-3 : tie.Need-returns-3
 returns-3 c =
     let p = c .before .before .before .before .pre in
-    settled-is (p .0) (p .1) (p .2) (p .3) (c .before .before .before .if1 .left) (c .before .before .if2 .left) (c .before .whole .ensures) (c .at-most .ensures)
+    stretches-is (p .0) (p .1) (p .2) (p .3) (c .before .before .before .if1 .left) (c .before .before .if2 .left) (c .before .whole .ensures) (c .at-most .ensures)
 
-pub settled-spec : {M : Type 1} → statement M
-settled-spec =
+pub only-stretches-spec : {M : Type 1} → statement M
+only-stretches-spec =
     tie.close
     (tie.spec add-if1 returns returns-2 add-whole whole-requires at-most-requires returns-3)
