@@ -11,6 +11,7 @@ import tempfile
 from second.tests.samples import ROOT
 
 COMPARE = os.path.join(ROOT, "tests", "compare")
+LINES = 700  # of the comparison of the series
 PROGRAM = """
 import os, sys
 sys.path[:0] = [{root!r}, os.path.join({root!r}, "tests")]
@@ -35,18 +36,22 @@ def compared(*arguments, spoil=""):
     return done.returncode, done.stdout.decode().split("\n")[-2]
 
 
+def counted(equal, different):
+    return "%d passed, %d failed" % (equal, different)
+
+
 def test_a_right_program_passes():
-    assert compared() == (0, "600 passed, 0 failed")
+    assert compared() == (0, counted(LINES, 0))
 
 
 def test_one_wrong_digit_fails():
-    assert compared(spoil="lines[7] = lines[7][:-1] + '?'") == (1, "599 passed, 1 failed")
+    assert compared(spoil="lines[7] = lines[7][:-1] + '?'") == (1, counted(LINES - 1, 1))
 
 
 def test_missing_and_extra_lines_fail():
-    assert compared(spoil="lines.pop()") == (1, "599 passed, 1 failed")
-    assert compared(spoil="lines.append(lines[-1])") == (1, "600 passed, 1 failed")
-    assert compared(spoil="lines.clear()") == (1, "0 passed, 600 failed")
+    assert compared(spoil="lines.pop()") == (1, counted(LINES - 1, 1))
+    assert compared(spoil="lines.append(lines[-1])") == (1, counted(LINES, 1))
+    assert compared(spoil="lines.clear()") == (1, counted(0, LINES))
 
 
 def test_a_bad_end_fails():
@@ -56,4 +61,4 @@ def test_a_bad_end_fails():
 
 def test_no_program_fails():
     assert compared("series=no-such-program-here")[0] == 1
-    assert compared("no_such_comparison") == (1, "0 passed, 1 failed")
+    assert compared("no_such_comparison") == (1, counted(0, 1))
