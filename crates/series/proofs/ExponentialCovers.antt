@@ -41,6 +41,11 @@ module _ (v : ℕ) {X : Span} {x : Fraction} (h : x ∈ X) where
       let tail = exp-tail-256 N (≼-trans l (h .above)) (≼-trans (h .under) u) n in
       between v (expSum (suc v) X 256) (expTerm (suc v) X 256) (expSum-in 256) (expTerm-in 256) tail
 
+-- a product of what is at or above zero is
+pub times-above : (v : ℕ) {A B : Span} → Each (Sign false) A → Each (Sign false) B → Each (Sign false) (ends (times (suc v) A B))
+times-above v {A} {B} a b =
+    rounded-sign false v (over _⊗_ A B) (over-ordered _⊗_ A B) (over-both {R = Sign false} _⊗_ (λ x y c d. ⊗-nonneg c d) a b)
+
 -- where X is at or above zero, so is every term, and the sum is at least 1
 module _ (v : ℕ) {X : Span} (o : Ordered X) (l : nat 0 ≼ X .low) where
   pub expTerm-above : (k : ℕ) → Each (Sign false) (ends (expTerm (suc v) X k))
@@ -49,9 +54,7 @@ module _ (v : ℕ) {X : Span} (o : Ordered X) (l : nat 0 ≼ X .low) where
   expTerm-above (suc k) =
       let T = ends (expTerm (suc v) X k) in
       let P = ends (times (suc v) T X) in
-      let p : Each (Sign false) P =
-      rounded-sign false v (over _⊗_ T X) (over-ordered _⊗_ T X)
-      (over-both {R = Sign false} _⊗_ (λ x y a b. ⊗-nonneg a b) (expTerm-above k) (record { low = l; high = ≼-trans l (o .order) })) in
+      let p : Each (Sign false) P = times-above v (expTerm-above k) (record { low = l; high = ≼-trans l (o .order) }) in
       rounded-sign false v (over _⊘_ P (whole (suc k))) (over-ordered _⊘_ P (whole (suc k)))
       (over-both {Q = λ (y : Fraction). Unit {0}} {R = Sign false} _⊘_ (λ x y a b. ⊘-nonneg y a) p (record { low = tt; high = tt }))
 

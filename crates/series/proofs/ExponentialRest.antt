@@ -9,7 +9,7 @@ use lib.Dec.{lit≤}
 use lib.Pow.{pow-lt, pow-mono}
 use Rattle.exact.specs.Fraction.{nat, _⊗_, _⊘_, _≼_, _≺_}
 use Rattle.exact.specs.Fraction.Order.{≼-trans, ≼-refl, ≺-≼-trans, ≼-≈-trans, ≈-≼-trans, ≈-sym}
-use Rattle.exact.specs.Fraction.Product.{⊗-mono, ⊗-pos, ⊗-nonneg}
+use Rattle.exact.specs.Fraction.Product.{⊗-mono, ⊗-pos}
 use Rattle.exact.specs.Fraction.Quotient.{⊘-pos, ⊘-≼}
 use Rattle.exact.specs.Fraction.Parts.{nat-pos, nat-nonneg, nat-≼}
 use Rattle.sheet.specs.Number.{value}
@@ -17,17 +17,15 @@ use Rattle.sheet.specs.Range.{extent}
 use Rattle.bracket.specs.declared.Bracket.{Bracket}
 use Rattle.bracket.specs.Span.{Span, Ordered, Each, Sign, whole, over}
 use Rattle.bracket.specs.Rules.{ends, times, stretched}
-use Rattle.bracket.proofs.Corners.{over-ordered}
 use Rattle.bracket.proofs.Inclusion.{combined-ordered}
-use Rattle.bracket.proofs.Kept.{corner-high, high-out, rounded-sign}
+use Rattle.bracket.proofs.Kept.{corner-high, high-out}
 use Rattle.bracket.proofs.Signs.{over-times, over-divided}
 use Rattle.bracket.proofs.Slight.{Nonneg, high-plain, stretched-none, stretched-next, plus-slight, addlast-slight}
-use Rattle.measure.proofs.Lift.{over-both}
 use Rattle.series.specs.Exponential.{expTerm, expSum, expTotal}
 use Rattle.series.proofs.Short.{unit, high-short, high-unit}
 use Rattle.series.proofs.Units.{unit-times}
 use Rattle.series.proofs.Fits.{value-most}
-use Rattle.series.proofs.ExponentialCovers.{expTerm-above, expTerm-ordered, expSum-ordered, expSum-least}
+use Rattle.series.proofs.ExponentialCovers.{times-above, expTerm-above, expTerm-ordered, expSum-ordered, expSum-least}
 use Rattle.series.proofs.ExponentialHeld.{expTerm-spelled, expSum-spelled}
 
 -- the terms after k are slight: X's upper end is above zero and at most k + 1, so that a power of two that bounds term k bounds every later
@@ -58,9 +56,7 @@ module _ (v : ℕ) {X : Span} (o : Ordered X) (above : nat 0 ≼ X .low) where
       let A = ends (expTerm (suc v) X n) in
       let P = ends (times (suc v) A X) in
       let a = expTerm-above v o above n in
-      let r : Each (Sign false) P =
-      rounded-sign false v (over _⊗_ A X) (over-ordered _⊗_ A X)
-      (over-both {R = Sign false} _⊗_ (λ x y c d. ⊗-nonneg c d) a (record { low = above; high = high-above })) in
+      let r : Each (Sign false) P = times-above v a (record { low = above; high = high-above }) in
       let p : P .high ≼ unit q ⊗ nat (suc n) =
       ≼-≈-trans
       (high-short v (suc n) q (over _⊗_ A X) (zero-lt-suc n) few

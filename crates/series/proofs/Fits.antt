@@ -3,12 +3,11 @@ use mathlib.Core.Path.{_≡_}
 use mathlib.Core.Bool.{false}
 use mathlib.Core.Logic.{inr}
 use Prim.Native.Nat.{ℕ, suc, _+_, _*_, _^_, _≤_, _<_}
-use native.Mathlib.Nat.{le-of-mul-le-mul-right, mul-lt-mul-of-pos-right}
+use native.Mathlib.Nat.{mul-lt-mul-of-pos-right}
 use native.Mathlib.Omega.{arith}
 use lib.Pow.{pow-pos, pow-add}
 use Rattle.exact.specs.Fraction.{_≼_}
 use Rattle.exact.specs.Fraction.Order.{≺-≼-trans}
-use Rattle.exact.specs.Fraction.Parts.{≼-parts}
 use Rattle.exact.specs.Fraction.Units.{≼-units, units-≼}
 use Rattle.sheet.specs.declared.Sheet.{Sheet}
 use Rattle.sheet.specs.Number.{bias, value, Spelled}
@@ -28,9 +27,7 @@ pub value-least : (s : Sheet) (l : ℕ) → unit l ≼ value s → (s .neg ≡ f
 unfolding value short
 value-least s l a =
     let z = above-zero s (≺-≼-trans (unit-pos l) a) .0 in
-    let low : 1 * 2 ^ l * 2 ^ bias ≤ extent s * 2 ^ bias =
-    ≼-parts (1 * 2 ^ l) (2 ^ bias) (extent s) (2 ^ bias) (pow-pos bias) (pow-pos bias) (rw z at a) in
-    let l1 = le-of-mul-le-mul-right low (pow-pos bias) in
+    let t = ≼-units (1 * 2 ^ l) (extent s) (2 ^ bias) (pow-pos bias) (rw z at a) in
     (z, omega arith)
 
 pub value-most : (s : Sheet) (h : ℕ) → s .neg ≡ false → value s ≼ unit h → extent s ≤ 2 ^ h

@@ -34,7 +34,7 @@ at-most-requires c κs =
 returns-3 : tie.Need-returns-3
 returns-3 c =
     let p = c .before .before .before .before .pre in
-    stretches-is (p .0) (p .1) (p .2) (p .3) (c .before .before .before .if1 .left) (c .before .before .if2 .left) (c .before .whole .ensures) (c .at-most .ensures)
+    stretches-is (p .0) (p .1) (p .2) (p .3) (omega (arith, c .before .before .before .if1 .left)) (c .before .before .if2 .left) (c .before .whole .ensures) (c .at-most .ensures)
 
 pub only-stretches-spec : {M : Type 1} → statement M
 only-stretches-spec =
