@@ -1,10 +1,11 @@
 // The f64 of exactly a given value.
+use sheet::Found;
 use sheet::Sheet;
 ghost use mathlib.Core.Path.{_≡_};
-ghost use Prim.Native.Nat.{_-_, _*_, _^_, _≤_, _<_};
+ghost use Prim.Native.Nat.{_*_, _^_, _<_};
 ghost use Rattle.exact.specs.Fraction.{parts};
 ghost use Rattle.sheet.specs.Number.{bias, value};
-ghost use Rattle.sheet.specs.Range.{Grain, Doubled};
+ghost use Rattle.sheet.specs.Range.{Doubled};
 ghost use Rattle.doubles.specs.Handed.{doubleOf};
 ghost use Rattle.doubles.specs.Encoded.{Settled, Encodable};
 
@@ -14,53 +15,19 @@ pub struct Places {
     pub e: u64,
 }
 
-// Below the last place of an f64, 2^-1074, all digits are zeros: they are dropped one by one.
-fn narrowed(m: u64, e: u64) -> Places
-    requires { ⌜ Grain (bias - 1074) (m * 2 ^ e) ⌝ }
-    requires { ⌜ (m < 2 ^ 53) × (e ≤ 261070) ⌝ }
-    ensures { λ r. ⌜ Settled m e r ⌝ }
-{
-    let mut digits = m;
-    let mut place = e;
-    while place < 261070 {
-        digits = digits / 2;
-        place = place + 1;
-    }
-    Places {
-        m: digits,
-        e: place,
-    }
-}
-
-// Above it the digits are moved up until there are 53, or until the last place is reached: a subnormal f64.
-fn widened(m: u64, e: u64) -> Places
-    requires { ⌜ (m < 2 ^ 53) × (261070 ≤ e) ⌝ }
-    ensures { λ r. ⌜ Settled m e r ⌝ }
-{
-    let mut digits = m;
-    let mut place = e;
-    while 261070 < place {
-        if 0x10_0000_0000_0000 <= digits {
-            break;
-        }
-        digits = digits * 2;
-        place = place - 1;
-    }
-    Places {
-        m: digits,
-        e: place,
-    }
-}
-
+// The same size with 53 digits, or with fewer at the last place of an f64, 2^-1074: a subnormal one. Digits below that place are zeros.
 fn settled(m: u64, e: u64) -> Places
     requires { ⌜ Encodable m e ⌝ }
+    requires { ⌜ 0 < m ⌝ }
     ensures { λ r. ⌜ Settled m e r ⌝ }
 {
-    if e < 261070 {
-        narrowed(m, e)
-    } else {
-        widened(m, e)
-    }
+    let size = Found {
+        m,
+        sticky: false,
+        e,
+    };
+    let x = sheet::normalised(size, 52, 261070);
+    Places { m: x.m, e: x.e }
 }
 
 // The leading digit of 53 adds one to the exponent's field; a subnormal f64 has none, and the field 0.

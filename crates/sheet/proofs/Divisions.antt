@@ -1,38 +1,87 @@
--- Long division: a digit is brought down, and what is found has its place. Assumes nothing.
-use mathlib.Core.Path.{_≡_, refl, ap, _∙_}
+-- Long division: digits are brought down, many at once, and what is found has its place. Assumes nothing.
+use mathlib.Core.Path.{_≡_, refl, sym, ap, _∙_}
+use mathlib.Core.Logic.{⊎-elim}
 use mathlib.Core.Bool.{Bool, true, false, not}
 use Prim.Native.Nat.{ℕ, _+_, _-_, _*_, _/_, _%_, _^_, _≤_, _<_}
-use native.Mathlib.Nat.{mul-pos, mul-lt-mul-of-pos-right, pos-of-ne-zero, div-add-mod', mod-lt}
+use native.Mathlib.Nat.{mul-pos, mul-assoc, zero-mul, mul-lt-mul-of-pos-right, pos-of-ne-zero, div-add-mod', mod-lt, div-lt-iff-lt-mul}
 use native.Mathlib.Omega.{arith}
 use borrow.Author.Tests.{eqb-true, eqb-false}
+use lib.Count.{leadingZeros}
 use lib.Dec.{eqb}
 use lib.Pow.{pow-pos}
 use Rattle.sheet.specs.declared.given.Division.{Division}
 use Rattle.sheet.specs.Magnitude.{Place, Cut}
-use Rattle.sheet.specs.Steps.{Dividing, BroughtDown}
-use Rattle.sheet.proofs.Addends.{double}
+use Rattle.sheet.specs.Steps.{Lesser, Dividing, Divisible, BroughtDown}
+use Rattle.sheet.proofs.Gaps.{zero-or-pos}
+use Rattle.sheet.proofs.Shifts.{pow-part, up-fits, up-full, some-zeros}
 
 pub begins : (num den from : ℕ) → 0 < den → Dividing num den from (record { digits = num / den; rest = num % den; place = from })
 begins num den from h = record { whole = ap (λ (x : ℕ). x * 2 ^ from) (div-add-mod' num den); left = mod-lt num h }
 
-brought : (den : ℕ) (x y : Division) → 0 < x .place → y .place ≡ x .place - 1 → y .digits * den + y .rest ≡ (x .digits * den + x .rest) * 2
-    → y .rest < den → (num from : ℕ) → Dividing num den from x → Dividing num den from y
-brought den x y p e h l num from d =
-    record { whole = rw (h, e) (double (x .digits * den + x .rest) (x .place) p ∙ d .whole); left = l }
+-- ---- how many digits at once
 
-pub bring-none : (den : ℕ) (x : Division) → 0 < x .place → x .rest * 2 < den
-    → BroughtDown den x (record { digits = x .digits * 2; rest = x .rest * 2; place = x .place - 1 })
-bring-none den x p l =
-    record { keeps = brought den x (record { digits = x .digits * 2; rest = x .rest * 2; place = x .place - 1 }) p refl (omega arith) l; place = omega arith; digits = omega arith }
+lesser-pos : {a b r : ℕ} → Lesser a b r → 0 < a → 0 < b → 0 < r
+lesser-pos {a} {b} {r} l p q = ⊎-elim (λ z. let e : r ≡ a = l .one (omega arith) in omega arith) (λ h. h) (zero-or-pos r)
 
-pub bring-one : (den : ℕ) (x : Division) → 0 < x .place → x .rest < den → den ≤ x .rest * 2
-    → BroughtDown den x (record { digits = x .digits * 2 + 1; rest = x .rest * 2 - den; place = x .place - 1 })
-bring-one den x p s l =
+pub record Reach (digits rest place t : ℕ) : Type 0 where
+  pub some : 0 < t
+  pub few : t < 64
+  pub fits : rest * 2 ^ t < 2 ^ 64
+  pub room : (digits + 1) * 2 ^ t ≤ 2 ^ 64
+  pub below : t ≤ place
+
+pub reach : (den : ℕ) (x : Division) (free t : ℕ) → Divisible den x → Lesser (leadingZeros 64 (x .digits)) (leadingZeros 64 (x .rest)) free
+    → Lesser free (x .place) t → Reach (x .digits) (x .rest) (x .place) t
+reach den x free t d l k =
+    let a = d .few in
+    let b : x .rest < 2 ^ 63 = omega (arith, d .left, d .divisor) in
+    let f : t ≤ leadingZeros 64 (x .digits) = omega (arith, l .first, k .first) in
+    let g : t ≤ leadingZeros 64 (x .rest) = omega (arith, l .second, k .first) in
     record {
-      keeps = brought den x (record { digits = x .digits * 2 + 1; rest = x .rest * 2 - den; place = x .place - 1 }) p refl (omega arith) (omega arith);
-      place = omega arith;
-      digits = omega arith;
+      some = lesser-pos k (lesser-pos l (some-zeros (x .digits) a) (some-zeros (x .rest) b)) (d .place);
+      few = ⊎-elim (λ z. omega (arith, g, up-full (x .rest) (omega (arith, z, d .some)) (omega arith) .0)) (λ p. omega (arith, f, up-full (x .digits) p (omega arith) .0)) (zero-or-pos (x .digits));
+      fits = omega (arith, up-fits (x .rest) t (omega arith) g, pow-pos t);
+      room = up-fits (x .digits) t (omega arith) f;
+      below = k .second;
     }
+
+-- ---- t digits are brought down
+
+pub few-digits : (den rest t : ℕ) → rest < den → rest * 2 ^ t / den < 2 ^ t
+few-digits den rest t h =
+    div-lt-iff-lt-mul (let p : 0 < den = omega arith in p) .1
+    (let k : rest * 2 ^ t < den * 2 ^ t = mul-lt-mul-of-pos-right h (pow-pos t) in let g : rest * 2 ^ t < 2 ^ t * den = omega arith in g)
+
+pub bring : (den t : ℕ) (x : Division) → x .rest < den → 0 < t → t ≤ x .place
+    → BroughtDown den x (record { digits = x .digits * 2 ^ t + x .rest * 2 ^ t / den; rest = x .rest * 2 ^ t % den; place = x .place - t })
+bring den t x l p h =
+    record {
+      keeps = λ num from d. record { whole = kept ∙ d .whole; left = mod-lt (x .rest * 2 ^ t) (let q : 0 < den = omega arith in q) };
+      place = omega arith;
+    }
+  where
+    n : ℕ
+    n = x .rest * 2 ^ t
+
+    once : (x .digits * 2 ^ t + n / den) * den + n % den ≡ (x .digits * den + x .rest) * 2 ^ t
+    once = let q : n / den * den + n % den ≡ n = div-add-mod' n den in omega arith
+
+    kept : ((x .digits * 2 ^ t + n / den) * den + n % den) * 2 ^ (x .place - t) ≡ (x .digits * den + x .rest) * 2 ^ x .place
+    kept =
+        ap (λ (k : ℕ). k * 2 ^ (x .place - t)) once ∙ mul-assoc (x .digits * den + x .rest) (2 ^ t) (2 ^ (x .place - t))
+        ∙ ap (λ (k : ℕ). (x .digits * den + x .rest) * k) (sym (pow-part t (x .place) h))
+
+-- a number above zero leaves something to divide on the way
+pub left-over : (num den from : ℕ) (x : Division) → 0 < num → Dividing num den from x → 0 < x .digits + x .rest
+left-over num den from x p d = ⊎-elim (λ z. absurd (none z)) (λ h. h) (zero-or-pos (x .digits + x .rest))
+  where
+    none : x .digits + x .rest ≡ 0 → ⊥
+    none z =
+        let a : x .digits ≡ 0 = omega arith in
+        let b : x .rest ≡ 0 = omega arith in
+        let w : (0 * den + 0) * 2 ^ x .place ≡ num * 2 ^ from = rw (a, b) at (d .whole) in
+        let q : 0 < num * 2 ^ from = mul-pos p (pow-pos from) in
+        omega (arith, rw (zero-mul, native.Mathlib.Nat.add-zero, zero-mul) at w)
 
 pub division-place : (num den from : ℕ) (x : Division) → Dividing num den from x → Place (x .digits) (not (eqb (x .rest) 0)) (x .place) (num * 2 ^ from) den
 unfolding Cut

@@ -2,6 +2,8 @@
 pub mod Gaps
 pub mod Digits
 pub mod Places
+pub mod Shifts
+pub mod Normalising
 pub mod Rounding
 pub mod Signed
 pub mod Spelling

@@ -145,27 +145,28 @@ place-cut {m} {s} {e} {num} {den} t n p =
     let l : m * 2 ^ e * den ≤ num = place-le p in
     record { low = rw pow-add (omega arith); high = rw pow-add (omega (arith, p .high)) }
 
--- nothing was cut, so a place may be opened below
-pub place-widen : {m e num den : ℕ} → Place m false (suc e) num den → Place (m * 2) false e num den
-unfolding Cut
-place-widen {m} {e} {num} {den} p =
-    let l : m * 2 ^ suc e * den ≡ num = p .low in
-    let unit : 0 < 2 ^ e * den = mul-pos (pow-pos e) (place-den p) in
-    let k : m * (2 * 2 ^ e) * den ≡ num = rw pow-succ' at l in
-    record { low = omega arith; high = omega arith }
-
 -- a whole number of units is its own place
 pub place-whole : (m e : ℕ) → Place m false e (m * 2 ^ e) 1
 unfolding Cut
 place-whole m e = let h = pow-pos e in record { low = omega arith; high = omega arith }
 
 -- no digits and nothing cut: zero at any place
-pub place-zero : {e num den : ℕ} → Place 0 false e num den → Place 0 false 0 num den
+pub place-zero : {e num den : ℕ} (k : ℕ) → Place 0 false e num den → Place 0 false k num den
 unfolding Cut
-place-zero {e} {num} {den} p =
+place-zero {e} {num} {den} k p =
     let l : 0 * 2 ^ e * den ≡ num = p .low in
-    let h = place-den p in
-    record { low = omega (arith, rw (zero-mul, zero-mul) at l); high = omega (arith, rw (zero-mul, zero-mul) at l) }
+    let z : 0 ≡ num = rw (zero-mul, zero-mul) at l in
+    let unit : 0 < 2 ^ k * den = mul-pos (pow-pos k) (place-den p) in
+    record { low = rw (zero-mul, zero-mul) z; high = omega arith }
+
+-- no digits and something cut: the same at a place not below
+pub place-less : {e num den : ℕ} (k : ℕ) → e ≤ k → Place 0 true e num den → Place 0 true k num den
+unfolding Cut
+place-less {e} {num} {den} k h p =
+    let l : 0 * 2 ^ e * den < num = p .low in
+    let z : 0 < num = rw (zero-mul, zero-mul) at l in
+    let a : 2 ^ e * den ≤ 2 ^ k * den = mul-le-mul-right den (pow-mono h) in
+    record { low = rw (zero-mul, zero-mul) z; high = omega (arith, p .high) }
 
 -- the digits of a division, and whether a rest is left
 pub place-div : (n d e : ℕ) → 0 < d → Place (n / d) (not (eqb (n % d) 0)) e (n * 2 ^ e) d

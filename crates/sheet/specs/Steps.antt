@@ -19,31 +19,49 @@ pub record Ready (v : ℕ) (x : Found) : Type 0 where
   pub full : x .sticky ≡ true → 0 < x .e → 2 ^ v ≤ x .m
   pub room : x .e ≤ 2 ^ 62
 
+-- digits that fit a word s places up, with a place for them after u are cut; where something was cut, none is opened
+pub record Movable (s u : ℕ) (x : Found) : Type 0 where
+  pub up : s < 64
+  pub down : u < 64
+  pub fits : x .m * 2 ^ s < 2 ^ 64
+  pub below : s ≤ x .e + u
+  pub whole : x .sticky ≡ true → s ≤ u
+  pub room : x .e + u < 2 ^ 64
+
+pub record Moved (s u : ℕ) (x y : Found) : Type 0 where
+  pub digits : y .m ≡ x .m * 2 ^ s / 2 ^ u
+  pub place : y .e + s ≡ x .e + u
+  pub keeps : Keeps x y
+
 pub record CutBy (t : ℕ) (x y : Found) : Type 0 where
   pub digits : y .m ≡ x .m / 2 ^ t
   pub place : y .e ≡ x .e + t
   pub keeps : Keeps x y
 
--- no more than suc v digits are left, and full digits stay full
-pub record Narrowed (v : ℕ) (x y : Found) : Type 0 where
+pub record Lesser (a b r : ℕ) : Type 0 where
+  pub first : r ≤ a
+  pub second : r ≤ b
+  pub one : r < b → r ≡ a
+
+-- where something was cut, the digits are all there, or the place is not above the last, from which it is less than a word away
+pub record Loose (v last : ℕ) (x : Found) : Type 0 where
+  pub few : v < 64
+  pub near : last < x .e + 64
+  pub full : x .sticky ≡ true → last < x .e → 2 ^ v ≤ x .m
+  pub room : x .e ≤ 2 ^ 62
+
+-- suc v digits, or fewer at the last place
+pub record Normalised (v last : ℕ) (x y : Found) : Type 0 where
   pub small : y .m < 2 ^ suc v
-  pub full : 2 ^ v ≤ x .m → 2 ^ v ≤ y .m
-  pub same : x .m < 2 ^ suc v → y ≡ x
+  pub full : last < y .e → 2 ^ v ≤ y .m
+  pub least : last ≤ y .e
   pub keeps : Keeps x y
-  pub room : y .e ≤ x .e + 2 ^ 33
+  pub room : y .e ≤ x .e + 64 + last
 
--- one more place below; nothing was cut
-pub record Opened (x y : Found) : Type 0 where
-  pub digits : y .m ≡ x .m * 2
-  pub place : y .e + 1 ≡ x .e
-  pub exact : y .sticky ≡ false
-  pub keeps : Keeps x y
-
--- the digits are those of the spelling
-pub record Fitted (v : ℕ) (x y : Found) : Type 0 where
-  pub fit : Fit v (y .m) (y .e)
-  pub keeps : Keeps x y
-  pub room : y .e ≤ x .e + 2 ^ 33
+-- 32 digits, and where there are more the place goes up
+pub record Carried (neg : Bool) (m e : ℕ) (r : Sheet) : Type 0 where
+  pub plain : m < 2 ^ 32 → r ≡ record { neg = neg; m = m; e = e }
+  pub carry : 2 ^ 32 ≤ m → r ≡ record { neg = neg; m = m - 2 ^ 31; e = e + 1 }
 
 -- r is the rounding of every quotient that has the place
 abbrev pub Rounds : Bool → Bool → ℕ → Bool → ℕ → ℕ → Sheet → Type 0
@@ -57,6 +75,10 @@ pub record Aligned (m e to : ℕ) (y : Found) : Type 0 where
   pub digits : y .m ≡ m / 2 ^ (to - e)
   pub found : Place (y .m) (y .sticky) to (m * 2 ^ e) 1
 
+pub record OneWhere (b : Bool) (r : ℕ) : Type 0 where
+  pub yes : b ≡ true → r ≡ 1
+  pub no : b ≡ false → r ≡ 0
+
 -- the addends of a sum, the greater first
 pub record Addends (a b : Sheet) : Type 0 where
   pub first : InRange a
@@ -69,10 +91,18 @@ pub record Dividing (num den from : ℕ) (x : Division) : Type 0 where
   pub whole : (x .digits * den + x .rest) * 2 ^ x .place ≡ num * 2 ^ from
   pub left : x .rest < den
 
+-- something is left to divide, and there is room for a digit more
+pub record Divisible (den : ℕ) (x : Division) : Type 0 where
+  pub few : x .digits < 2 ^ 63
+  pub left : x .rest < den
+  pub divisor : den ≤ 2 ^ 63
+  pub some : 0 < x .digits + x .rest
+  pub place : 0 < x .place
+
+-- one digit more, or many
 pub record BroughtDown (den : ℕ) (x y : Division) : Type 0 where
   pub keeps : (num from : ℕ) → Dividing num den from x → Dividing num den from y
-  pub place : y .place + 1 ≡ x .place
-  pub digits : y .digits ≤ x .digits * 2 + 1
+  pub place : y .place < x .place
 
 -- with suc v digits, or no place left
 pub record Divided (v num den from : ℕ) (x : Division) : Type 0 where

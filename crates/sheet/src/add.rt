@@ -13,7 +13,7 @@ ghost use Rattle.exact.specs.Fraction.{_⊕_, _⊖_};
 ghost use Rattle.sheet.specs.Number.{value};
 ghost use Rattle.sheet.specs.Round.{round};
 ghost use Rattle.sheet.specs.Range.{InRange};
-ghost use Rattle.sheet.specs.Steps.{Aligned, Addends};
+ghost use Rattle.sheet.specs.Steps.{Aligned, Addends, OneWhere};
 
 // The digits of m · 2^e at a place not below e.
 fn aligned(m: u64, e: u64, to: u64) -> Found
@@ -61,6 +61,12 @@ fn level(up: bool, a: Sheet, b: Sheet) -> Sheet
     rounded(up, a.neg, am - bm, false, a.e)
 }
 
+fn one_where(b: bool) -> u64
+    ensures { λ r. ⌜ OneWhere b r ⌝ }
+{
+    if b { 1 } else { 0 }
+}
+
 // Two numbers of different signs, at different places: the digits of the lower one, one place below those of the higher, are taken away;
 // where something was cut, one more is taken and the rest stays.
 fn taken(up: bool, a: Sheet, b: Sheet) -> Sheet
@@ -71,11 +77,8 @@ fn taken(up: bool, a: Sheet, b: Sheet) -> Sheet
     let ae = a.e;
     let x = aligned(b.m, b.e, ae - 1);
     let q = x.m;
-    if x.sticky {
-        rounded(up, a.neg, am * 2 - q - 1, true, ae - 1)
-    } else {
-        rounded(up, a.neg, am * 2 - q, false, ae - 1)
-    }
+    let more = one_where(x.sticky);
+    rounded(up, a.neg, am * 2 - q - more, x.sticky, ae - 1)
 }
 
 // The greater magnitude comes first.

@@ -1,12 +1,13 @@
-// Given values: a fraction of two numbers by long division, place by place, and a whole number. Assumes nothing.
+// Given values: a fraction of two numbers by long division, many digits a turn, and a whole number. Assumes nothing.
 use crate::Sheet;
+use crate::place::lesser;
 use crate::place::rounded;
 ghost use mathlib.Core.Path.{_≡_};
 ghost use mathlib.Core.Bool.{false};
 ghost use Prim.Native.Nat.{_*_, _^_, _<_, _≤_};
 ghost use Rattle.exact.specs.Fraction.{nat, parts};
 ghost use Rattle.sheet.specs.Round.{round};
-ghost use Rattle.sheet.specs.Steps.{BroughtDown, Divided};
+ghost use Rattle.sheet.specs.Steps.{Divisible, BroughtDown, Divided};
 
 // A long division on its way: the digits found, what is left over, and the place.
 pub struct Division {
@@ -15,32 +16,30 @@ pub struct Division {
     pub place: u64,
 }
 
-// One more digit.
+// More digits: as many as leave what is found and what is left over within a word, and no more than there are places.
 fn brought_down(x: Division, den: u64) -> Division
-    requires { ⌜ (x .digits < 2 ^ 62) × (x .rest < den) × (den ≤ 2 ^ 63) × (0 < x .place) ⌝ }
+    requires { ⌜ Divisible den x ⌝ }
     ensures { λ r. ⌜ BroughtDown den x r ⌝ }
 {
-    let digits = x.digits * 2;
-    let twice = x.rest * 2;
-    let place = x.place - 1;
-    if twice < den {
-        Division {
-            digits,
-            rest: twice,
-            place,
-        }
-    } else {
-        Division {
-            digits: digits + 1,
-            rest: twice - den,
-            place,
-        }
+    let digits = x.digits;
+    let rest = x.rest;
+    let place = x.place;
+    let free = lesser(
+        u64::leading_zeros(digits) as u64,
+        u64::leading_zeros(rest) as u64,
+    );
+    let t = lesser(free, place);
+    let n = rest << t;
+    Division {
+        digits: (digits << t) + n / den,
+        rest: n % den,
+        place: place - t,
     }
 }
 
 // Digits are brought down until there are 32, or no place is left below.
 fn long_division(num: u64, den: u64, from: u64) -> Division
-    requires { ⌜ (0 < den) × (den ≤ 2 ^ 63) ⌝ }
+    requires { ⌜ (0 < num) × (0 < den) × (den ≤ 2 ^ 63) ⌝ }
     ensures { λ r. ⌜ Divided 31 num den from r ⌝ }
 {
     let mut x = Division {

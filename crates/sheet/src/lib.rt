@@ -6,7 +6,7 @@ mod further; // further.rt: the sheet number so many further on
 mod given; // given.rt: fractions and whole numbers
 mod multiply; // multiply.rt: the product
 mod order; // order.rt: comparison and negation
-mod place; // place.rt: digits at a place are cut, opened and rounded
+mod place; // place.rt: digits at a place are moved and rounded
 
 pub use add::difference;
 pub use add::sum;
@@ -17,6 +17,8 @@ pub use given::whole;
 pub use multiply::product;
 pub use order::at_most;
 pub use order::negated;
+pub use place::Found;
+pub use place::normalised;
 pub use place::rounded;
 
 // ± m · 2^e in units of 2^-262144; zero is { false, 0, 0 }

@@ -1,7 +1,5 @@
 // The product of two sheet numbers, rounded once. Assumes nothing.
 use crate::Sheet;
-use crate::place::Found;
-use crate::place::cut;
 use crate::place::rounded;
 ghost use mathlib.Core.Path.{_≡_};
 ghost use Rattle.exact.specs.Fraction.{_⊗_};
@@ -9,7 +7,7 @@ ghost use Rattle.sheet.specs.Number.{value};
 ghost use Rattle.sheet.specs.Round.{round};
 ghost use Rattle.sheet.specs.Range.{InRange};
 
-// Two significands of 32 digits make one of 63 or 64, of which the last 31 are cut before it is rounded.
+// Two significands of 32 digits make one of 63 or 64.
 pub fn product(up: bool, a: Sheet, b: Sheet) -> Sheet
     requires { ⌜ InRange a × InRange b ⌝ }
     ensures { λ r. ⌜ r ≡ round up 32 (value a ⊗ value b) ⌝ }
@@ -18,27 +16,13 @@ pub fn product(up: bool, a: Sheet, b: Sheet) -> Sheet
     let bm = b.m;
     let ae = a.e;
     let be = b.e;
-    if am == 0 {
+    let m = am * bm;
+    if m == 0 {
         return Sheet {
             neg: false,
             m: 0,
             e: 0,
         };
     }
-    if bm == 0 {
-        return Sheet {
-            neg: false,
-            m: 0,
-            e: 0,
-        };
-    }
-    let x = cut(
-        Found {
-            m: am * bm,
-            sticky: false,
-            e: ae + be - 262144,
-        },
-        31,
-    );
-    rounded(up, a.neg != b.neg, x.m, x.sticky, x.e)
+    rounded(up, a.neg != b.neg, m, false, ae + be - 262144)
 }

@@ -1,12 +1,13 @@
-// The rounding of digits at a place, with word of what was cut below them, to 32 bits: place by place. Assumes nothing.
+// The rounding of digits at a place, with word of what was cut below them, to 32 bits. The count of leading zeros says how far they move,
+// and they move at once. Assumes nothing.
 use crate::Sheet;
 ghost use mathlib.Core.Path.{_≡_};
-ghost use mathlib.Core.Bool.{true, false};
-ghost use Prim.Native.Nat.{ℕ, _+_, _*_, _/_, _^_, _≤_, _<_};
+ghost use mathlib.Core.Bool.{true};
+ghost use Prim.Native.Nat.{_+_, _*_, _^_, _≤_, _<_};
 ghost use Rattle.sheet.specs.Magnitude.{finish};
 ghost use Rattle.sheet.specs.Number.{signed};
 ghost use Rattle.sheet.specs.Round.{away};
-ghost use Rattle.sheet.specs.Steps.{Ready, CutBy, Narrowed, Opened, Fitted, Rounds};
+ghost use Rattle.sheet.specs.Steps.{Ready, Movable, Moved, CutBy, Loose, Normalised, Lesser, Carried, Rounds};
 
 // Digits so far, whether anything was cut below them, and their place.
 pub struct Found {
@@ -15,107 +16,86 @@ pub struct Found {
     pub e: u64,
 }
 
-// The last t places are cut off.
-pub fn cut(x: Found, t: u64) -> Found
-    requires { ⌜ (t < 64) × (x .e + t < 2 ^ 64) ⌝ }
-    ensures { λ r. ⌜ CutBy t x r ⌝ }
+// The digits go up by s places within a word, and the last u are cut off: u - s places fewer, or s - u more.
+fn moved(x: Found, s: u64, u: u64) -> Found
+    requires { ⌜ Movable s u x ⌝ }
+    ensures { λ r. ⌜ Moved s u x r ⌝ }
 {
     let m = x.m;
     let e = x.e;
-    let q = m >> t;
-    if q << t == m {
+    let n = m << s;
+    let q = n >> u;
+    if q << u == n {
         Found {
             m: q,
             sticky: x.sticky,
-            e: e + t,
+            e: e + u - s,
         }
     } else {
         Found {
             m: q,
             sticky: true,
-            e: e + t,
+            e: e + u - s,
         }
     }
 }
 
-// Digits past the 32nd are cut, place by place.
-pub fn narrowed(x: Found) -> Found
-    requires { ⌜ x .e ≤ 2 ^ 63 ⌝ }
-    ensures { λ r. ⌜ Narrowed 31 x r ⌝ }
+// The last t places are cut off.
+pub fn cut(x: Found, t: u64) -> Found
+    requires { ⌜ (t < 64) × (x .e + t < 2 ^ 64) ⌝ }
+    ensures { λ r. ⌜ CutBy t x r ⌝ }
 {
-    let mut y = x;
-    while 4294967296 <= y.m {
-        y = cut(y, 1);
-    }
-    y
+    moved(x, 0, t)
 }
 
-// A place is opened below.
-fn opened(x: Found) -> Found
-    requires { ⌜ (x .m < 2 ^ 63) × (0 < x .e) × (x .sticky ≡ false) ⌝ }
-    ensures { λ r. ⌜ Opened x r ⌝ }
+pub fn lesser(a: u64, b: u64) -> u64
+    ensures { λ r. ⌜ Lesser a b r ⌝ }
+{
+    if a < b { a } else { b }
+}
+
+// As many digits as v + 1, or fewer where there is no place below the last. All digits go to the top of a word, or as far as the last place
+// allows, and the word's lower part is cut off.
+pub fn normalised(x: Found, v: u64, last: u64) -> Found
+    requires { ⌜ Loose v last x ⌝ }
+    ensures { λ r. ⌜ Normalised v last x r ⌝ }
 {
     let m = x.m;
     let e = x.e;
-    Found {
-        m: m * 2,
-        sticky: false,
-        e: e - 1,
-    }
-}
-
-// Places are opened until there are 32 digits, or none is left below.
-fn widened(x: Found) -> Found
-    requires { ⌜ (x .m < 2 ^ 32) × (x .sticky ≡ false) ⌝ }
-    ensures { λ r. ⌜ Fitted 31 x r ⌝ }
-{
-    let mut y = x;
-    while y.m < 2147483648 {
-        let e = y.e;
-        if e == 0 {
-            return y;
-        }
-        y = opened(y);
-    }
-    y
-}
-
-// The digits of the spelling; where something was cut they are all there.
-fn fitted(x: Found) -> Found
-    requires { ⌜ Ready 31 x ⌝ }
-    ensures { λ r. ⌜ Fitted 31 x r ⌝ }
-{
-    if x.sticky {
-        return narrowed(x);
-    }
-    let m = x.m;
     if m == 0 {
         return Found {
-            m: 0,
-            sticky: false,
-            e: 0,
+            m,
+            sticky: x.sticky,
+            e: last,
         };
     }
-    if m < 4294967296 {
-        return widened(x);
+    let u = 63 - v;
+    if e + u < last {
+        return moved(x, 0, last - e);
     }
-    narrowed(x)
+    let s = lesser(u64::leading_zeros(m) as u64, e + u - last);
+    moved(x, s, u)
 }
 
-// The next sheet number in magnitude: past the greatest of 32 digits the least, one place up.
+// Digits that may have reached 2^32: past the greatest of 32 digits comes the least, one place up.
+pub fn carried(neg: bool, m: u64, e: u64) -> Sheet
+    requires { ⌜ (m < 2 ^ 33) × (e < 2 ^ 63) ⌝ }
+    ensures { λ r. ⌜ Carried neg m e r ⌝ }
+{
+    let c = m / 4294967296;
+    Sheet {
+        neg,
+        m: m - c * 2147483648,
+        e: e + c,
+    }
+}
+
+// The next sheet number in magnitude.
 fn next(neg: bool, m: u64, e: u64) -> Sheet
     requires { ⌜ (m < 2 ^ 32) × (e < 2 ^ 63) ⌝ }
     ensures { λ r. ⌜ r ≡ signed neg (finish true true 32 (record { m = m; e = e })) ⌝ }
 {
-    if m + 1 == 4294967296 {
-        Sheet {
-            neg,
-            m: 2147483648,
-            e: e + 1,
-        }
-    } else {
-        Sheet { neg, m: m + 1, e }
-    }
+    carried(neg, m + 1, e)
 }
 
 // A magnitude with its sign; zero has none.
@@ -137,10 +117,15 @@ fn finished(up: bool, neg: bool, x: Found) -> Sheet
     let m = x.m;
     let e = x.e;
     if x.sticky {
-        if up != neg {
+        if up {
+            if neg {
+                return signed(neg, m, e);
+            }
             return next(neg, m, e);
         }
-        return signed(neg, m, e);
+        if neg {
+            return next(neg, m, e);
+        }
     }
     signed(neg, m, e)
 }
@@ -151,6 +136,6 @@ pub fn rounded(up: bool, neg: bool, m: u64, sticky: bool, e: u64) -> Sheet
     ensures { λ r. ⌜ Rounds up neg m sticky e 32 r ⌝ }
 {
     let x = Found { m, sticky, e };
-    let y = fitted(x);
+    let y = normalised(x, 31, 0);
     finished(up, neg, y)
 }

@@ -1,14 +1,15 @@
 -- `sheet::add::taken` meets its contract. Assumes nothing.
-use mathlib.Core.Path.{_≡_, sym, _∙_, subst}
-use mathlib.Core.Bool.{Bool, true, false, false≢true}
+use mathlib.Core.Path.{_≡_, refl, sym, _∙_, subst}
+use mathlib.Core.Bool.{Bool, true, false}
 use Prim.Native.Nat.{ℕ, _+_, _-_, _*_, _^_, _≤_, _<_}
+use native.Mathlib.Nat.{sub-zero}
 use native.Mathlib.Omega.{arith}
 use borrow.Author.Needs.{needs}
 use Rattle.sheet.specs.declared.Sheet.{Sheet}
 use Rattle.sheet.specs.declared.place.Found.{Found}
 use Rattle.sheet.specs.Magnitude.{Place}
 use Rattle.sheet.specs.Range.{extent}
-use Rattle.sheet.specs.Steps.{Addends, Aligned}
+use Rattle.sheet.specs.Steps.{Addends, Aligned, OneWhere}
 use Rattle.sheet.proofs.Addends.{pair, double, short}
 use Rattle.sheet.proofs.Sums.{place-take, place-take-rest}
 use Rattle.sheet.proofs.Operations.{sum-less}
@@ -42,15 +43,21 @@ module _ (a b : Sheet) (x : Found) (h : Addends a b) (l : b .e < a .e) (y : Alig
   order : extent b ≤ a .m * 2 * 2 ^ (a .e - 1)
   order = rw twice (h .order)
 
-  with-rest : x .sticky ≡ true → Place (a .m * 2 - x .m - 1) true (a .e - 1) (extent a - extent b) 1
-  with-rest t =
-      subst (λ (n : ℕ). Place (a .m * 2 - x .m - 1) true (a .e - 1) (n - extent b) 1) twice
-      (place-take-rest (a .m * 2) (x .m) (a .e - 1) (extent b) order (subst (λ (s : Bool). Place (x .m) s (a .e - 1) (extent b) 1) t (y .found)))
+  -- one more is taken where something was cut
+  left : (s : Bool) (k : ℕ) → x .sticky ≡ s → OneWhere s k → Place (a .m * 2 - x .m - k) s (a .e - 1) (extent a - extent b) 1
+  left true k t o =
+      rw (o .yes refl)
+      (subst (λ (n : ℕ). Place (a .m * 2 - x .m - 1) true (a .e - 1) (n - extent b) 1) twice
+      (place-take-rest (a .m * 2) (x .m) (a .e - 1) (extent b) order (subst (λ (s : Bool). Place (x .m) s (a .e - 1) (extent b) 1) t (y .found))))
+  left false k t o =
+      rw (o .no refl, sub-zero)
+      (subst (λ (n : ℕ). Place (a .m * 2 - x .m) false (a .e - 1) (n - extent b) 1) twice
+      (place-take (a .m * 2) (x .m) (a .e - 1) (extent b) order (subst (λ (s : Bool). Place (x .m) s (a .e - 1) (extent b) 1) t (y .found))))
 
-  whole : x .sticky ≡ false → Place (a .m * 2 - x .m) false (a .e - 1) (extent a - extent b) 1
-  whole t =
-      subst (λ (n : ℕ). Place (a .m * 2 - x .m) false (a .e - 1) (n - extent b) 1) twice
-      (place-take (a .m * 2) (x .m) (a .e - 1) (extent b) order (subst (λ (s : Bool). Place (x .m) s (a .e - 1) (extent b) 1) t (y .found)))
+-- no more than one
+at-most-one : (s : Bool) (k : ℕ) → OneWhere s k → k ≤ 1
+at-most-one true k o = let e = o .yes refl in omega arith
+at-most-one false k o = let e = o .no refl in omega arith
 
 sub-aligned : tie.Need-sub-aligned
 sub-aligned c = search needs
@@ -58,51 +65,38 @@ sub-aligned c = search needs
 aligned-requires : tie.Need-aligned-requires
 aligned-requires c κs = (c .pre .0 .some, omega (arith, c .pre .2))
 
-at : (c : tie.After-aligned) → Ranges (c .before .args .a) (c .aligned .result)
-at c = ranges (c .before .args .a) (c .before .args .b) (c .aligned .result) (c .before .pre .0) (c .before .pre .2) (c .aligned .ensures)
+one-where-requires : tie.Need-one-where-requires
+one-where-requires c κs = search needs
+
+at : (c : tie.After-one-where) → Ranges (c .before .before .args .a) (c .before .aligned .result)
+at c =
+    let b = c .before .before in
+    ranges (b .args .a) (b .args .b) (c .before .aligned .result) (b .pre .0) (b .pre .2) (c .before .aligned .ensures)
 
 mul-rounded : tie.Need-mul-rounded
-mul-rounded c = omega (arith, at (c .before) .twice)
+mul-rounded c = omega (arith, at c .twice)
 
 sub-rounded : tie.Need-sub-rounded
-sub-rounded c = omega (arith, at (c .before) .below)
+sub-rounded c = omega (arith, at c .below)
 
 sub-rounded-2 : tie.Need-sub-rounded-2
-sub-rounded-2 c = omega (arith, at (c .before) .below)
+sub-rounded-2 c = omega (arith, at c .below, at-most-one _ _ (c .one-where .ensures))
 
 sub-rounded-3 : tie.Need-sub-rounded-3
 sub-rounded-3 c = search needs
 
 rounded-requires : tie.Need-rounded-requires
 rounded-requires c κs =
-    record { full = λ _ _. at (c .before) .full (c .if1 .taken); room = omega (arith, at (c .before) .high) }
-
-mul-rounded-2 : tie.Need-mul-rounded-2
-mul-rounded-2 c = omega (arith, at (c .before) .twice)
-
-sub-rounded-4 : tie.Need-sub-rounded-4
-sub-rounded-4 c = omega (arith, at (c .before) .below)
-
-sub-rounded-5 : tie.Need-sub-rounded-5
-sub-rounded-5 c = search needs
-
-rounded-requires-2 : tie.Need-rounded-requires-2
-rounded-requires-2 c κs = record { full = λ t _. absurd (false≢true t); room = omega (arith, at (c .before) .high) }
+    record { full = λ t _. let o = c .one-where .ensures .yes t in omega (arith, at c .full t); room = omega (arith, at c .high) }
 
 returns : tie.Need-returns
 returns c =
-    let k = c .before .before .before .args in
-    let h = c .before .before .before .pre in
+    let b = c .before .before .before in
+    let k = b .args in
+    let h = b .pre in
+    let x = c .before .before .aligned in
     c .rounded .ensures (extent (k .a) - extent (k .b)) 1
-    (with-rest (k .a) (k .b) (c .before .before .aligned .result) (h .0) (h .2) (c .before .before .aligned .ensures) (c .before .if1 .taken))
-    ∙ sym (sum-less (k .up) 31 (k .a) (k .b) (h .1) (h .0 .order))
-
-returns-2 : tie.Need-returns-2
-returns-2 c =
-    let k = c .before .before .before .args in
-    let h = c .before .before .before .pre in
-    c .rounded2 .ensures (extent (k .a) - extent (k .b)) 1
-    (whole (k .a) (k .b) (c .before .before .aligned .result) (h .0) (h .2) (c .before .before .aligned .ensures) (c .before .if1 .left))
+    (left (k .a) (k .b) (x .result) (h .0) (h .2) (x .ensures) (x .result .sticky) (c .before .one-where .result) refl (c .before .one-where .ensures))
     ∙ sym (sum-less (k .up) 31 (k .a) (k .b) (h .1) (h .0 .order))
 
 pub taken-spec : {M : Type 1} → statement M
@@ -111,14 +105,10 @@ taken-spec =
     (tie.spec
     sub-aligned
     aligned-requires
+    one-where-requires
     mul-rounded
     sub-rounded
     sub-rounded-2
     sub-rounded-3
     rounded-requires
-    mul-rounded-2
-    sub-rounded-4
-    sub-rounded-5
-    rounded-requires-2
-    returns
-    returns-2)
+    returns)

@@ -4,7 +4,7 @@ use Prim.Native.Nat.{_≤_}
 use native.Mathlib.Nat.{pos-of-ne-zero}
 use native.Mathlib.Omega.{arith}
 use Rattle.sheet.specs.Steps.{Dividing}
-use Rattle.sheet.proofs.Divisions.{begins}
+use Rattle.sheet.proofs.Divisions.{begins, left-over}
 use Rattle.sheet.proofs.given.long_division.Statement.{statement}
 use Rattle.sheet.proofs.given.long_division.Tie as tie
 
@@ -15,13 +15,13 @@ abbrev μ-loop : tie.MeasureT-loop
 μ-loop num den from x₀ x = x .place
 
 div-t6 : tie.Need-div-t6 Inv-loop μ-loop
-div-t6 c = c .pre .0
+div-t6 c = c .pre .1
 
 rem-t7 : tie.Need-rem-t7 Inv-loop μ-loop
-rem-t7 c = c .pre .0
+rem-t7 c = c .pre .1
 
 loop-holds : tie.Need-loop-holds Inv-loop μ-loop
-loop-holds c = (begins (c .args .num) (c .args .den) (c .args .from) (c .pre .0), omega arith)
+loop-holds c = (begins (c .args .num) (c .args .den) (c .args .from) (c .pre .1), omega arith)
 
 returns : tie.Need-returns Inv-loop μ-loop
 returns c =
@@ -30,8 +30,16 @@ returns c =
 
 brought-down-requires : tie.Need-brought-down-requires Inv-loop μ-loop
 brought-down-requires c κs =
-    let i = c .before .before .before .loop .inv in
-    (omega arith, i .0 .left, c .before .before .before .before .pre .1, pos-of-ne-zero (c .if2 .left))
+    let h = c .before .before .before .before .pre in
+    let k = c .before .before .before .before .args in
+    let l = c .before .before .before .loop in
+    record {
+      few = omega arith;
+      left = l .inv .0 .left;
+      divisor = h .2;
+      some = left-over (k .num) (k .den) (k .from) (l .x) (h .0) (l .inv .0);
+      place = pos-of-ne-zero (c .if2 .left);
+    }
 
 loop-less : tie.Need-loop-less Inv-loop μ-loop
 loop-less c = let e = c .brought-down .ensures .place in omega arith
