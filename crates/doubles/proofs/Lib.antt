@@ -5,6 +5,7 @@ pub mod Pattern
 pub mod Read
 pub mod Handed
 pub mod Shift
+pub mod Settling
 pub mod Write
 pub mod Largest
 pub mod Doubling

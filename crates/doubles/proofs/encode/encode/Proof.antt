@@ -24,7 +24,7 @@ unfolding ofBits
 returns c = let at = c .before in sym (doubleOf-zero (no-digits (at .args .neg) (at .args .m) (at .args .e) (c .if1 .taken)))
 
 settled-requires : tie.Need-settled-requires
-settled-requires c κs = c .before .pre
+settled-requires c κs = (c .before .pre, omega arith)
 
 -- where the pattern is made
 in-place : (c : tie.After-settled) → c .settled .result .e - 261070 ≤ 2045
