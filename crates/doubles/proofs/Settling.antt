@@ -1,8 +1,8 @@
--- A size with 53 digits, or with fewer at the last place of an f64: where it is a multiple of that place nothing was cut. Assumes nothing.
+-- A size with suc v digits, or with fewer at a last place whose multiple it is: nothing was cut. Assumes nothing.
 use Prim.Native.Nat.{ℕ, suc, _+_, _*_, _/_, _^_, _≤_, _<_}
 use mathlib.Core.Path.{_≡_, sym, ap, _∙_}
 use mathlib.Core.Logic.{⊎-elim}
-use mathlib.Core.Bool.{Bool, false}
+use mathlib.Core.Bool.{Bool, false, false≢true}
 use native.Mathlib.Omega.{arith}
 use native.Mathlib.Nat.{le-trans, le-of-eq, lt-of-le-of-lt, le-antisymm, mul-le-mul-right, le-of-mul-le-mul-right, lt-of-mul-lt-mul-right, div-mul-cancel, mul-pos}
 use lib.Pow.{pow-add, pow-pos, shl-lt}
@@ -26,7 +26,7 @@ exact-at a b p n found g =
     let same : a ≡ k = le-antisymm (le-of-mul-le-mul-right low (pow-pos p)) (omega arith) in
     ap (λ (x : ℕ). x * 2 ^ p) same ∙ q
 
-module _ (m e l : ℕ) (some : 0 < m) (few : m < 2 ^ 53) (fine : Grain l (m * 2 ^ e)) where
+module _ (v m e l : ℕ) (some : 0 < m) (few : m < 2 ^ suc v) (fine : Grain l (m * 2 ^ e)) where
   -- a multiple of 2^l is at least 2^l
   least : 2 ^ l ≤ m * 2 ^ e
   least = ⊎-elim (λ h. h) (λ h. absurd (none h)) (le-or-lt (2 ^ l) (m * 2 ^ e))
@@ -41,16 +41,16 @@ module _ (m e l : ℕ) (some : 0 < m) (few : m < 2 ^ 53) (fine : Grain l (m * 2 
           let p : 0 < m * 2 ^ e = mul-pos some (pow-pos e) in
           omega arith
 
-  pub loose : e ≤ 2 ^ 62 → Loose 52 l (record { m = m; sticky = false; e = e })
-  loose h =
+  pub loose : v < 63 → e ≤ 2 ^ 62 → Loose v l (record { m = m; sticky = false; e = e })
+  loose k h =
       record {
-        few = omega arith;
-        near = let p = place-low 52 l m e few least in omega arith;
-        full = λ t. absurd (mathlib.Core.Bool.false≢true t);
+        few = k;
+        near = let p = place-low v l m e few least in omega arith;
+        full = λ t. absurd (false≢true t);
         room = h;
       }
 
-  module _ (y : Found) (n : Normalised 52 l (record { m = m; sticky = false; e = e }) y) where
+  module _ (y : Found) (n : Normalised v l (record { m = m; sticky = false; e = e }) y) where
     found : Place (y .m) (y .sticky) (y .e) (m * 2 ^ e) 1
     found = n .keeps (m * 2 ^ e) 1 (place-whole m e)
 
@@ -63,10 +63,10 @@ module _ (m e l : ℕ) (some : 0 < m) (few : m < 2 ^ 53) (fine : Grain l (m * 2 
           where
             none : l < y .e → ⊥
             none k =
-                let a : 2 ^ 52 * 2 ^ y .e ≤ y .m * 2 ^ y .e = mul-le-mul-right (2 ^ y .e) (n .full k) in
+                let a : 2 ^ v * 2 ^ y .e ≤ y .m * 2 ^ y .e = mul-le-mul-right (2 ^ y .e) (n .full k) in
                 let b : y .m * 2 ^ y .e ≤ m * 2 ^ e = let p = place-le found in omega arith in
-                let c : 2 ^ (52 + y .e) < 2 ^ (53 + e) = lt-of-le-of-lt (le-trans (le-of-eq (pow-add 2 52 (y .e))) (le-trans a b)) (shl-lt 53 e few) in
-                let d = pow-lt-back (52 + y .e) (53 + e) c in
+                let c : 2 ^ (v + y .e) < 2 ^ (suc v + e) = lt-of-le-of-lt (le-trans (le-of-eq (pow-add 2 v (y .e))) (le-trans a b)) (shl-lt (suc v) e few) in
+                let d = pow-lt-back (v + y .e) (suc v + e) c in
                 omega arith
 
     pub same-size : y .m * 2 ^ y .e ≡ m * 2 ^ e

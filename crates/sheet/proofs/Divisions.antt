@@ -20,30 +20,31 @@ begins num den from h = record { whole = ap (λ (x : ℕ). x * 2 ^ from) (div-ad
 
 -- ---- how many digits at once
 
-lesser-pos : {a b r : ℕ} → Lesser a b r → 0 < a → 0 < b → 0 < r
+pub lesser-pos : {a b r : ℕ} → Lesser a b r → 0 < a → 0 < b → 0 < r
 lesser-pos {a} {b} {r} l p q = ⊎-elim (λ z. let e : r ≡ a = l .one (omega arith) in omega arith) (λ h. h) (zero-or-pos r)
 
-pub record Reach (digits rest place t : ℕ) : Type 0 where
-  pub some : 0 < t
-  pub few : t < 64
-  pub fits : rest * 2 ^ t < 2 ^ 64
-  pub room : (digits + 1) * 2 ^ t ≤ 2 ^ 64
-  pub below : t ≤ place
+module _ (den : ℕ) (x : Division) (d : Divisible den x) where
+  short : x .rest < 2 ^ 63
+  short = omega (arith, d .left, d .divisor)
 
-pub reach : (den : ℕ) (x : Division) (free t : ℕ) → Divisible den x → Lesser (leadingZeros 64 (x .digits)) (leadingZeros 64 (x .rest)) free
-    → Lesser free (x .place) t → Reach (x .digits) (x .rest) (x .place) t
-reach den x free t d l k =
-    let a = d .few in
-    let b : x .rest < 2 ^ 63 = omega (arith, d .left, d .divisor) in
-    let f : t ≤ leadingZeros 64 (x .digits) = omega (arith, l .first, k .first) in
-    let g : t ≤ leadingZeros 64 (x .rest) = omega (arith, l .second, k .first) in
-    record {
-      some = lesser-pos k (lesser-pos l (some-zeros (x .digits) a) (some-zeros (x .rest) b)) (d .place);
-      few = ⊎-elim (λ z. omega (arith, g, up-full (x .rest) (omega (arith, z, d .some)) (omega arith) .0)) (λ p. omega (arith, f, up-full (x .digits) p (omega arith) .0)) (zero-or-pos (x .digits));
-      fits = omega (arith, up-fits (x .rest) t (omega arith) g, pow-pos t);
-      room = up-fits (x .digits) t (omega arith) f;
-      below = k .second;
-    }
+  -- both numbers leave room for a digit
+  pub room-left : {free : ℕ} → Lesser (leadingZeros 64 (x .digits)) (leadingZeros 64 (x .rest)) free → 0 < free
+  room-left l = lesser-pos l (some-zeros (x .digits) (d .few)) (some-zeros (x .rest) short)
+
+  module _ (t : ℕ) (f : t ≤ leadingZeros 64 (x .digits)) (g : t ≤ leadingZeros 64 (x .rest)) where
+    -- one of the two is not zero
+    pub within-word : t < 64
+    within-word =
+        ⊎-elim
+        (λ z. omega (arith, g, up-full (x .rest) (omega (arith, z, d .some)) (omega (arith, short)) .0))
+        (λ p. omega (arith, f, up-full (x .digits) p (omega (arith, d .few)) .0))
+        (zero-or-pos (x .digits))
+
+    pub rest-fits : x .rest * 2 ^ t < 2 ^ 64
+    rest-fits = omega (arith, up-fits (x .rest) t (omega (arith, short)) g, pow-pos t)
+
+    pub digits-fit : (x .digits + 1) * 2 ^ t ≤ 2 ^ 64
+    digits-fit = up-fits (x .digits) t (omega (arith, d .few)) f
 
 -- ---- t digits are brought down
 

@@ -5,7 +5,7 @@ use Prim.Native.Nat.{ℕ, suc, _+_, _-_, _*_, _/_, _^_, _≤_, _<_}
 use Rattle.sheet.specs.declared.Sheet.{Sheet}
 use Rattle.sheet.specs.declared.given.Division.{Division}
 use Rattle.sheet.specs.declared.place.Found.{Found}
-use Rattle.sheet.specs.Magnitude.{Place, Fit, roundMag}
+use Rattle.sheet.specs.Magnitude.{Place, roundMag}
 use Rattle.sheet.specs.Number.{signed}
 use Rattle.sheet.specs.Round.{away}
 use Rattle.sheet.specs.Range.{extent, InRange}
@@ -19,7 +19,7 @@ pub record Ready (v : ℕ) (x : Found) : Type 0 where
   pub full : x .sticky ≡ true → 0 < x .e → 2 ^ v ≤ x .m
   pub room : x .e ≤ 2 ^ 62
 
--- digits that fit a word s places up, with a place for them after u are cut; where something was cut, none is opened
+-- digits that fit a word s places up, and have a place where u are cut again; where something was cut before, no place is opened
 pub record Movable (s u : ℕ) (x : Found) : Type 0 where
   pub up : s < 64
   pub down : u < 64
@@ -45,7 +45,7 @@ pub record Lesser (a b r : ℕ) : Type 0 where
 
 -- where something was cut, the digits are all there, or the place is not above the last, from which it is less than a word away
 pub record Loose (v last : ℕ) (x : Found) : Type 0 where
-  pub few : v < 64
+  pub few : v < 63
   pub near : last < x .e + 64
   pub full : x .sticky ≡ true → last < x .e → 2 ^ v ≤ x .m
   pub room : x .e ≤ 2 ^ 62
@@ -58,7 +58,7 @@ pub record Normalised (v last : ℕ) (x y : Found) : Type 0 where
   pub keeps : Keeps x y
   pub room : y .e ≤ x .e + 64 + last
 
--- 32 digits, and where there are more the place goes up
+-- digits below 2^33 as 32 of them: where there is one more, the place goes up
 pub record Carried (neg : Bool) (m e : ℕ) (r : Sheet) : Type 0 where
   pub plain : m < 2 ^ 32 → r ≡ record { neg = neg; m = m; e = e }
   pub carry : 2 ^ 32 ≤ m → r ≡ record { neg = neg; m = m - 2 ^ 31; e = e + 1 }
@@ -75,6 +75,7 @@ pub record Aligned (m e to : ℕ) (y : Found) : Type 0 where
   pub digits : y .m ≡ m / 2 ^ (to - e)
   pub found : Place (y .m) (y .sticky) to (m * 2 ^ e) 1
 
+-- 1 for true, 0 for false
 pub record OneWhere (b : Bool) (r : ℕ) : Type 0 where
   pub yes : b ≡ true → r ≡ 1
   pub no : b ≡ false → r ≡ 0

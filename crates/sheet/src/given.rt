@@ -4,7 +4,7 @@ use crate::place::lesser;
 use crate::place::rounded;
 ghost use mathlib.Core.Path.{_≡_};
 ghost use mathlib.Core.Bool.{false};
-ghost use Prim.Native.Nat.{_*_, _^_, _<_, _≤_};
+ghost use Prim.Native.Nat.{_^_, _<_, _≤_};
 ghost use Rattle.exact.specs.Fraction.{nat, parts};
 ghost use Rattle.sheet.specs.Round.{round};
 ghost use Rattle.sheet.specs.Steps.{Divisible, BroughtDown, Divided};

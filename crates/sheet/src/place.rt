@@ -3,7 +3,7 @@
 use crate::Sheet;
 ghost use mathlib.Core.Path.{_≡_};
 ghost use mathlib.Core.Bool.{true};
-ghost use Prim.Native.Nat.{_+_, _*_, _^_, _≤_, _<_};
+ghost use Prim.Native.Nat.{_+_, _*_, _^_, _<_};
 ghost use Rattle.sheet.specs.Magnitude.{finish};
 ghost use Rattle.sheet.specs.Number.{signed};
 ghost use Rattle.sheet.specs.Round.{away};
@@ -54,8 +54,8 @@ pub fn lesser(a: u64, b: u64) -> u64
     if a < b { a } else { b }
 }
 
-// As many digits as v + 1, or fewer where there is no place below the last. All digits go to the top of a word, or as far as the last place
-// allows, and the word's lower part is cut off.
+// v + 1 digits, or fewer at the last place. The digits go to the top of a word, or as far up as the last place allows, and what then stands
+// below v + 1 of them is cut off; where their place is far below the last, they are only cut.
 pub fn normalised(x: Found, v: u64, last: u64) -> Found
     requires { ⌜ Loose v last x ⌝ }
     ensures { λ r. ⌜ Normalised v last x r ⌝ }
@@ -71,13 +71,13 @@ pub fn normalised(x: Found, v: u64, last: u64) -> Found
     }
     let u = 63 - v;
     if e + u < last {
-        return moved(x, 0, last - e);
+        return cut(x, last - e);
     }
     let s = lesser(u64::leading_zeros(m) as u64, e + u - last);
     moved(x, s, u)
 }
 
-// Digits that may have reached 2^32: past the greatest of 32 digits comes the least, one place up.
+// Digits that may have gone past 32: past the greatest of 32 comes the least, one place up.
 pub fn carried(neg: bool, m: u64, e: u64) -> Sheet
     requires { ⌜ (m < 2 ^ 33) × (e < 2 ^ 63) ⌝ }
     ensures { λ r. ⌜ Carried neg m e r ⌝ }

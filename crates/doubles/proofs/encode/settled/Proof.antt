@@ -1,10 +1,9 @@
 -- `encode::settled` meets its contract. Assumes nothing.
-use Prim.Native.Nat.{ℕ, _+_, _*_, _^_, _≤_, _<_}
+use Prim.Native.Nat.{ℕ, _*_, _^_, _<_}
 use native.Mathlib.Nat.{le-trans, le-of-eq, lt-of-le-of-lt, one-mul, mul-le-mul-right}
 use native.Mathlib.Omega.{arith}
 use mathlib.Core.Path.{sym}
 use Rattle.sheet.specs.Number.{bias}
-use Rattle.doubles.specs.Encoded.{Encodable}
 use Rattle.doubles.proofs.Settling.{loose, same-size}
 use Rattle.doubles.proofs.Shift.{pow-lt-back}
 use Rattle.doubles.proofs.encode.settled.Statement.{statement}
@@ -19,7 +18,7 @@ unfolding bias
 normalised-requires c κs =
     let k = c .args in
     let g = c .pre .0 in
-    loose (k .m) (k .e) 261070 (c .pre .1) (g .few) (g .fine) (let l = low (k .m) (k .e) 263168 (c .pre .1) (g .small) in omega arith)
+    loose _ (k .m) (k .e) _ (c .pre .1) (g .few) (g .fine) (omega arith) (let l = low (k .m) (k .e) 263168 (c .pre .1) (g .small) in omega arith)
 
 returns : tie.Need-returns
 unfolding bias
@@ -28,10 +27,10 @@ returns c =
     let g = c .before .pre .0 in
     let n = c .normalised .ensures in
     record {
-      value = same-size (k .m) (k .e) 261070 (c .before .pre .1) (g .few) (g .fine) (c .normalised .result) n;
-      few = n .small;
-      least = n .least;
-      full = n .full;
+      value = same-size _ (k .m) (k .e) _ (c .before .pre .1) (g .few) (g .fine) (c .normalised .result) n;
+      few = omega (arith, n .small);
+      least = omega (arith, n .least);
+      full = λ h. omega (arith, n .full h);
     }
 
 pub settled-spec : {M : Type 1} → statement M

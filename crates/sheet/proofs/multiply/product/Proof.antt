@@ -5,7 +5,6 @@ use mathlib.Core.Bool.{xor, false≢true}
 use Prim.Native.Nat.{ℕ, _+_, _-_, _*_, _^_, _≤_, _<_}
 use native.Mathlib.Nat.{mul-le-mul-left, mul-lt-mul-of-pos-right, lt-of-le-of-lt, le-of-lt, mul-pos, zero-mul, mul-zero}
 use native.Mathlib.Omega.{arith}
-use borrow.Author.Needs.{needs}
 use Rattle.sheet.specs.declared.Sheet.{Sheet}
 use Rattle.sheet.specs.Range.{InRange}
 use Rattle.sheet.proofs.Gaps.{zero-or-pos}

@@ -1,11 +1,8 @@
 -- `sheet::place::carried` meets its contract: one place up takes the 33rd digit. Assumes nothing.
-use mathlib.Core.Path.{_≡_, ap₂}
-use mathlib.Core.Bool.{Bool}
-use Prim.Native.Nat.{ℕ, _+_, _-_, _*_, _/_, _^_, _≤_, _<_}
+use mathlib.Core.Path.{ap₂}
+use Prim.Native.Nat.{ℕ, _-_}
 use native.Mathlib.Omega.{arith}
 use borrow.Author.Needs.{needs}
-use Rattle.sheet.specs.declared.Sheet.{Sheet}
-use Rattle.sheet.specs.Steps.{Carried}
 use Rattle.sheet.proofs.place.carried.Statement.{statement}
 use Rattle.sheet.proofs.place.carried.Tie as tie
 

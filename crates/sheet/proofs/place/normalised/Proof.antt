@@ -4,7 +4,7 @@ use native.Mathlib.Nat.{pos-of-ne-zero}
 use native.Mathlib.Omega.{arith}
 use lib.Count.{leading-le}
 use borrow.Author.Needs.{needs}
-use Rattle.sheet.proofs.Normalising.{none, far, near-movable, at-top}
+use Rattle.sheet.proofs.Normalising.{none, far, movable, at-top}
 use Rattle.sheet.proofs.place.normalised.Statement.{statement}
 use Rattle.sheet.proofs.place.normalised.Tie as tie
 
@@ -17,16 +17,17 @@ sub-u c = search needs
 add-if2 : tie.Need-add-if2
 add-if2 c = search needs
 
-sub-moved : tie.Need-sub-moved
-sub-moved c = search needs
+sub-cut : tie.Need-sub-cut
+sub-cut c = search needs
 
-moved-requires : tie.Need-moved-requires
-moved-requires c κs = search needs
+cut-requires : tie.Need-cut-requires
+cut-requires c κs = search needs
 
 returns-2 : tie.Need-returns-2
 returns-2 c =
-    let k = c .before .before .before .args in
-    far (k .v) (k .last) (k .x) (c .before .before .before .pre) (omega arith) (c .moved .result) (c .before .if2 .taken) (c .moved .ensures)
+    let b = c .before .before .before in
+    let k = b .args in
+    far (k .v) (k .last) (k .x) (b .pre) _ (omega (arith, b .pre .few)) (omega arith) (c .cut .result) (c .before .if2 .taken) (c .cut .ensures)
 
 cast-lesser : tie.Need-cast-lesser
 cast-lesser c = omega (arith, leading-le 64 (c .before .before .args .x .m))
@@ -40,18 +41,21 @@ sub-lesser c = search needs
 lesser-requires : tie.Need-lesser-requires
 lesser-requires c κs = search needs
 
-moved-requires-2 : tie.Need-moved-requires-2
-moved-requires-2 c κs =
+moved-requires : tie.Need-moved-requires
+moved-requires c κs =
     let b = c .before .before .before in
     let k = b .args in
-    near-movable (k .v) (k .last) (k .x) (b .pre) (omega arith) (c .lesser .result) (pos-of-ne-zero (c .before .before .if1 .left)) (c .before .if2 .left) (c .lesser .ensures)
+    let l = c .lesser .ensures in
+    movable (k .v) (k .last) (k .x) (b .pre) _ (omega (arith, b .pre .few)) (omega arith) _ (pos-of-ne-zero (c .before .before .if1 .left)) (l .first) (omega (arith, l .second, c .before .if2 .left))
 
 returns-3 : tie.Need-returns-3
 returns-3 c =
     let a = c .before .before in
     let b = a .before .before in
     let k = b .args in
-    at-top (k .v) (k .last) (k .x) (b .pre) (omega arith) (c .before .lesser .result) (pos-of-ne-zero (a .before .if1 .left)) (a .if2 .left) (c .before .lesser .ensures) (c .moved2 .result) (c .moved2 .ensures)
+    let l = c .before .lesser .ensures in
+    at-top (k .v) (k .last) (k .x) (b .pre) _ (omega (arith, b .pre .few)) (omega arith) _ (pos-of-ne-zero (a .before .if1 .left)) (l .first) (omega (arith, l .second, a .if2 .left)) (c .moved .result)
+    (λ h. l .one (omega arith)) (c .moved .ensures)
 
 pub normalised-spec : {M : Type 1} → statement M
 normalised-spec =
@@ -60,12 +64,12 @@ normalised-spec =
     returns
     sub-u
     add-if2
-    sub-moved
-    moved-requires
+    sub-cut
+    cut-requires
     returns-2
     cast-lesser
     add-lesser
     sub-lesser
     lesser-requires
-    moved-requires-2
+    moved-requires
     returns-3)

@@ -1,6 +1,5 @@
 -- `sheet::place::rounded` meets its contract: the digits of the spelling at their place settle the rounding. Assumes nothing.
 use mathlib.Core.Path.{sym, ap, _∙_}
-use native.Mathlib.Omega.{arith}
 use borrow.Author.Needs.{needs}
 use Rattle.sheet.specs.Number.{signed}
 use Rattle.sheet.specs.Round.{away}
