@@ -27,7 +27,7 @@ pow-dvd g e h = let d = pow-le-split g e h in subst (λ (x : ℕ). 2 ^ g ∣ x) 
 pub grain-shift : (g m e : ℕ) → g ≤ e → Grain g (m * 2 ^ e)
 grain-shift g m e h = record { divides = dvd-mul-left-of-dvd (2 ^ g) (pow-dvd g e h) m }
 
-grain-coarser : (g g' n : ℕ) → g' ≤ g → Grain g n → Grain g' n
+pub grain-coarser : (g g' n : ℕ) → g' ≤ g → Grain g n → Grain g' n
 grain-coarser g g' n h d = record { divides = dvd-trans (2 ^ g') (pow-dvd g' g h) (d .divides) }
 
 pub grain-zero : (g : ℕ) → Grain g 0

@@ -4,6 +4,7 @@ use native.Mathlib.Nat.{le-trans, le-of-eq, lt-of-le-of-lt, one-mul, mul-le-mul-
 use native.Mathlib.Omega.{arith}
 use mathlib.Core.Path.{sym}
 use Rattle.sheet.specs.Number.{bias}
+use Rattle.sheet.proofs.Measures.{grain-coarser}
 use Rattle.doubles.proofs.Settling.{loose, same-size}
 use Rattle.doubles.proofs.Shift.{pow-lt-back}
 use Rattle.doubles.proofs.encode.settled.Statement.{statement}
@@ -18,7 +19,7 @@ unfolding bias
 normalised-requires c κs =
     let k = c .args in
     let g = c .pre .0 in
-    loose _ (k .m) (k .e) _ (c .pre .1) (g .few) (g .fine) (omega arith) (let l = low (k .m) (k .e) 263168 (c .pre .1) (g .small) in omega arith)
+    loose _ (k .m) (k .e) _ (c .pre .1) (omega (arith, g .few)) (grain-coarser 261070 _ _ (omega arith) (g .fine)) (omega arith) (let l = low (k .m) (k .e) 263168 (c .pre .1) (g .small) in omega arith)
 
 returns : tie.Need-returns
 unfolding bias
@@ -27,7 +28,7 @@ returns c =
     let g = c .before .pre .0 in
     let n = c .normalised .ensures in
     record {
-      value = same-size _ (k .m) (k .e) _ (c .before .pre .1) (g .few) (g .fine) (c .normalised .result) n;
+      value = same-size _ (k .m) (k .e) _ (c .before .pre .1) (omega (arith, g .few)) (grain-coarser 261070 _ _ (omega arith) (g .fine)) (c .normalised .result) n;
       few = omega (arith, n .small);
       least = omega (arith, n .least);
       full = λ h. omega (arith, n .full h);

@@ -24,11 +24,11 @@ lesser-requires-2 c κs = search needs
 
 -- how far both numbers may go up
 record Room (c : tie.After-lesser2) : Type 0 where
+  below : c .lesser2 .result ≤ c .before .before .args .x .place
   some : 0 < c .lesser2 .result
   word : c .lesser2 .result < 64
   rest : c .before .before .args .x .rest * 2 ^ c .lesser2 .result < 2 ^ 64
   digits : (c .before .before .args .x .digits + 1) * 2 ^ c .lesser2 .result ≤ 2 ^ 64
-  below : c .lesser2 .result ≤ c .before .before .args .x .place
 
 room : (c : tie.After-lesser2) → Room c
 room c =
@@ -40,11 +40,11 @@ room c =
     let f : c .lesser2 .result ≤ leadingZeros 64 (x .digits) = omega (arith, l .first, k .first) in
     let g : c .lesser2 .result ≤ leadingZeros 64 (x .rest) = omega (arith, l .second, k .first) in
     record {
+      below = omega (arith, k .second);
       some = lesser-pos k (room-left den x (b .pre) l) (b .pre .place);
       word = within-word den x (b .pre) _ f g;
       rest = rest-fits den x (b .pre) _ f g;
       digits = digits-fit den x (b .pre) _ f g;
-      below = omega (arith, k .second);
     }
 
 unshifted : (d t : ℕ) → (d + 1) * 2 ^ t ≤ 2 ^ 64 → d * 2 ^ t % 2 ^ 64 ≡ d * 2 ^ t
