@@ -4,15 +4,15 @@ use mathlib.Core.Path.{_≡_, refl, sym, ap, _∙_, subst}
 use mathlib.Core.Logic.{⊎-elim}
 use mathlib.Core.Bool.{Bool, true, false}
 use Prim.Native.Nat.{ℕ, suc, _+_, _-_, _*_, _/_, _^_, _≤_, _<_}
-use native.Mathlib.Nat.{le-trans, le-of-eq, lt-of-lt-of-le, mul-le-mul-right, le-div-iff-mul-le}
+use native.Mathlib.Nat.{le-trans, le-of-eq, le-antisymm, lt-of-lt-of-le, mul-le-mul-left, mul-le-mul-right, le-div-iff-mul-le, pow-succ'}
 use native.Mathlib.Omega.{arith}
 use lib.Count.{leadingZeros}
 use lib.Pow.{pow-add, pow-pos, pow-mono, shr-lt}
-use Rattle.sheet.specs.Magnitude.{Place}
+use Rattle.sheet.specs.Magnitude.{Place, Cut}
 use Rattle.sheet.specs.declared.place.Found.{Found}
 use Rattle.sheet.specs.Steps.{Movable, Moved, CutBy, Loose, Normalised}
 use Rattle.sheet.proofs.Gaps.{le-or-lt}
-use Rattle.sheet.proofs.Places.{place-zero, place-less}
+use Rattle.sheet.proofs.Places.{place-le, place-whole, place-zero, place-less, place-digits, place-sticky}
 use Rattle.sheet.proofs.Shifts.{up-fits, up-full}
 
 module _ (v last : ℕ) (x : Found) (loose : Loose v last x) where
@@ -92,3 +92,45 @@ module _ (v last : ℕ) (x : Found) (loose : Loose v last x) where
               let e : s ≡ leadingZeros 64 (x .m) = top (let k = d .place in omega arith) in
               let a : 2 ^ 63 ≤ x .m * 2 ^ s = subst (λ (k : ℕ). 2 ^ 63 ≤ x .m * 2 ^ k) (sym e) (up-full (x .m) some word .1) in
               le-div-iff-mul-le (pow-pos u) .1 (le-trans (le-of-eq (sym (pow-add 2 v u) ∙ ap (λ (k : ℕ). 2 ^ k) lower)) a)
+
+-- ---- two answers that meet the statement are equal
+
+-- digits at a place are those of some quotient
+record Quotient (m : ℕ) (sticky : Bool) (e : ℕ) : Type 0 where
+  num : ℕ
+  den : ℕ
+  place : Place m sticky e num den
+
+some-quotient : (m : ℕ) (sticky : Bool) (e : ℕ) → Quotient m sticky e
+unfolding Cut
+some-quotient m true e =
+    let p = pow-pos e in
+    record { num = (m * 2 + 1) * 2 ^ e; den = 2; place = record { low = omega arith; high = omega arith } }
+some-quotient m false e = record { num = m * 2 ^ e; den = 1; place = place-whole m e }
+
+not-above : (v last : ℕ) (x y z : Found) (num den : ℕ) → Normalised v last x y → Normalised v last x z → Place (x .m) (x .sticky) (x .e) num den → z .e ≤ y .e
+not-above v last x y z num den f g p = ⊎-elim (λ h. h) (λ h. absurd (none h)) (le-or-lt (z .e) (y .e))
+  where
+    none : y .e < z .e → ⊥
+    none h =
+        let low : z .m * 2 ^ z .e * den ≤ num = place-le (g .keeps num den p) in
+        let high : num < (y .m + 1) * 2 ^ y .e * den = f .keeps num den p .high in
+        let full : 2 ^ v ≤ z .m = g .full (let l = f .least in omega arith) in
+        let a : 2 ^ v * (2 ^ z .e * den) ≤ z .m * (2 ^ z .e * den) = mul-le-mul-right (2 ^ z .e * den) full in
+        let b : (y .m + 1) * (2 ^ y .e * den) ≤ 2 * 2 ^ v * (2 ^ y .e * den) = mul-le-mul-right (2 ^ y .e * den) (let s = f .small in let k : y .m + 1 ≤ 2 * 2 ^ v = omega arith in k) in
+        let c : 2 * 2 ^ y .e ≤ 2 ^ z .e = le-trans (le-of-eq (sym (pow-succ' 2 (y .e)))) (pow-mono h) in
+        let d : 2 ^ v * (2 * 2 ^ y .e * den) ≤ 2 ^ v * (2 ^ z .e * den) = mul-le-mul-left (2 ^ v) (mul-le-mul-right den c) in
+        omega arith
+
+pub normalised-settled : (v last : ℕ) (x y z : Found) → Normalised v last x y → Normalised v last x z → y ≡ z
+normalised-settled v last x y z f g = go (some-quotient (x .m) (x .sticky) (x .e))
+  where
+    go : Quotient (x .m) (x .sticky) (x .e) → y ≡ z
+    go q =
+        let p = q .place in
+        let e : y .e ≡ z .e = le-antisymm (not-above v last x z y (q .num) (q .den) g f p) (not-above v last x y z (q .num) (q .den) f g p) in
+        let a = f .keeps (q .num) (q .den) p in
+        let b = subst (λ (k : ℕ). Place (z .m) (z .sticky) k (q .num) (q .den)) (sym e) (g .keeps (q .num) (q .den) p) in
+        let m : y .m ≡ z .m = place-digits a b in
+        let s : y .sticky ≡ z .sticky = place-sticky a (subst (λ (k : ℕ). Place k (z .sticky) (y .e) (q .num) (q .den)) (sym m) b) in
+        λ i. record { m = m i; sticky = s i; e = e i }

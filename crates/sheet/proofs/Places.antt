@@ -3,7 +3,7 @@ use mathlib.Core.Path.{_≡_, refl, sym, ap, subst}
 use mathlib.Core.Logic.{⊎-elim}
 use mathlib.Core.Bool.{Bool, true, false, not}
 use Prim.Native.Nat.{ℕ, suc, _+_, _-_, _*_, _/_, _%_, _^_, _≤_, _<_}
-use native.Mathlib.Nat.{le-trans, le-of-eq, le-of-lt, lt-of-lt-of-le, mul-le-mul-right, mul-lt-mul-of-pos-right, lt-of-mul-lt-mul-right, eq-of-mul-eq-mul-right, div-lt-iff-lt-mul, le-div-iff-mul-le, div-mul-le-self, lt-div-mul-add, mul-pos, mul-zero, zero-mul, div-add-mod', mod-lt, pos-of-ne-zero}
+use native.Mathlib.Nat.{le-trans, le-antisymm, le-of-eq, le-of-lt, lt-of-lt-of-le, mul-le-mul-right, mul-lt-mul-of-pos-right, lt-of-mul-lt-mul-right, eq-of-mul-eq-mul-right, div-lt-iff-lt-mul, le-div-iff-mul-le, div-mul-le-self, lt-div-mul-add, mul-pos, mul-zero, zero-mul, div-add-mod', mod-lt, pos-of-ne-zero}
 use native.Mathlib.Omega.{arith}
 use borrow.Author.Tests.{eq-eqb, ne-eqb, eqb-true, eqb-false}
 use lib.Dec.{eqb}
@@ -19,6 +19,11 @@ unfolding Cut
 cut-le true a n h = le-of-lt h
 cut-le false a n h = le-of-eq h
 
+-- not both
+cut-one : (a n : ℕ) → Cut true a n → Cut false a n → ⊥
+unfolding Cut
+cut-one a n h k = let l : a < n = h in let e : a ≡ n = k in omega arith
+
 pub place-le : {m : ℕ} {s : Bool} {e num den : ℕ} → Place m s e num den → m * 2 ^ e * den ≤ num
 place-le {m} {s} {e} {num} {den} p = cut-le s (m * 2 ^ e * den) num (p .low)
 
@@ -27,6 +32,25 @@ place-den {m} {s} {e} {num} {den} p = ⊎-elim (λ z. absurd (no-den z)) (λ h. 
   where
     no-den : den ≡ 0 → ⊥
     no-den z = let h : num < (m + 1) * 2 ^ e * 0 = rw z at (p .high) in omega (arith, rw mul-zero at h)
+
+-- at one place a quotient has one row of digits, and one word of what was cut
+pub place-digits : {a b : ℕ} {s t : Bool} {e num den : ℕ} → Place a s e num den → Place b t e num den → a ≡ b
+place-digits {a} {b} {s} {t} {e} {num} {den} p q = le-antisymm (below a b (place-le p) (q .high)) (below b a (place-le q) (p .high))
+  where
+    below : (a b : ℕ) → a * 2 ^ e * den ≤ num → num < (b + 1) * 2 ^ e * den → a ≤ b
+    below a b l h =
+        let k : a * (2 ^ e * den) < suc b * (2 ^ e * den) = omega arith in
+        let m : a < suc b = lt-of-mul-lt-mul-right (2 ^ e * den) k in
+        omega arith
+
+pub place-sticky : {m : ℕ} {s t : Bool} {e num den : ℕ} → Place m s e num den → Place m t e num den → s ≡ t
+place-sticky {m} {s} {t} {e} {num} {den} p q = one s t (p .low) (q .low)
+  where
+    one : (a b : Bool) → Cut a (m * 2 ^ e * den) num → Cut b (m * 2 ^ e * den) num → a ≡ b
+    one true true x y = refl
+    one true false x y = absurd (cut-one (m * 2 ^ e * den) num x y)
+    one false true x y = absurd (cut-one (m * 2 ^ e * den) num y x)
+    one false false x y = refl
 
 -- ---- a found place gives the rounding
 
@@ -87,7 +111,7 @@ locate v num den h = go (eqb (m * 2 ^ k * den) num) refl
         record { m = m; sticky = false; e = k; fit = lead-fit v (num / den); place = record { low = eqb-true _ _ t; high = both .1 } }
     go false t =
         let ne = eqb-false (m * 2 ^ k * den) num t in
-        let lt : m * 2 ^ k * den < num = ⊎-elim (λ (g : num ≤ m * 2 ^ k * den). absurd (ne (native.Mathlib.Nat.le-antisymm (both .0) g))) (λ g. g) (le-or-lt num (m * 2 ^ k * den)) in
+        let lt : m * 2 ^ k * den < num = ⊎-elim (λ (g : num ≤ m * 2 ^ k * den). absurd (ne (le-antisymm (both .0) g))) (λ g. g) (le-or-lt num (m * 2 ^ k * den)) in
         record { m = m; sticky = true; e = k; fit = lead-fit v (num / den); place = record { low = lt; high = both .1 } }
 
 -- ---- a place is moved
