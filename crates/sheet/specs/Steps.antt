@@ -92,18 +92,20 @@ pub record Dividing (num den from : ℕ) (x : Division) : Type 0 where
   pub whole : (x .digits * den + x .rest) * 2 ^ x .place ≡ num * 2 ^ from
   pub left : x .rest < den
 
--- something is left to divide, and there is room for a digit more
+-- something is left to divide, and there is a place for a digit; before the first digit the rest may be any number
 pub record Divisible (den : ℕ) (x : Division) : Type 0 where
   pub few : x .digits < 2 ^ 63
-  pub left : x .rest < den
-  pub divisor : den ≤ 2 ^ 63
+  pub left : 0 < x .digits → x .rest < den
+  pub divisor : (0 < den) × (den ≤ 2 ^ 63)
   pub some : 0 < x .digits + x .rest
   pub place : 0 < x .place
 
--- one digit more, or many
+-- the same quotient, with a digit more or many
 pub record BroughtDown (den : ℕ) (x y : Division) : Type 0 where
-  pub keeps : (num from : ℕ) → Dividing num den from x → Dividing num den from y
-  pub place : y .place < x .place
+  pub same : (y .digits * den + y .rest) * 2 ^ y .place ≡ (x .digits * den + x .rest) * 2 ^ x .place
+  pub left : y .rest < den
+  pub place : y .place ≤ x .place
+  pub more : x .rest < den → y .place < x .place
 
 -- with suc v digits, or no place left
 pub record Divided (v num den from : ℕ) (x : Division) : Type 0 where

@@ -37,14 +37,14 @@ fn brought_down(x: Division, den: u64) -> Division
     }
 }
 
-// Digits are brought down until there are 32, or no place is left below.
+// Digits are brought down until there are 32, or no place is left below. All of num is the first rest.
 fn long_division(num: u64, den: u64, from: u64) -> Division
-    requires { ⌜ (0 < num) × (0 < den) × (den ≤ 2 ^ 63) ⌝ }
+    requires { ⌜ (0 < num) × (0 < den) × (den ≤ 2 ^ 63) × (0 < from) ⌝ }
     ensures { λ r. ⌜ Divided 31 num den from r ⌝ }
 {
     let mut x = Division {
-        digits: num / den,
-        rest: num % den,
+        digits: 0,
+        rest: num,
         place: from,
     };
     while x.digits < 2147483648 {

@@ -1,12 +1,10 @@
 -- `sheet::given::brought_down` meets its contract. Assumes nothing.
-use mathlib.Core.Path.{_≡_}
-use Prim.Native.Nat.{ℕ, _+_, _*_, _%_, _^_, _≤_, _<_}
+use Prim.Native.Nat.{_*_, _^_, _≤_, _<_}
 use native.Mathlib.Nat.{mod-eq-of-lt}
 use native.Mathlib.Omega.{arith}
 use lib.Count.{leadingZeros, leading-le}
-use lib.Pow.{pow-pos}
 use borrow.Author.Needs.{needs}
-use Rattle.sheet.proofs.Divisions.{lesser-pos, room-left, within-word, rest-fits, digits-fit, few-digits, bring}
+use Rattle.sheet.proofs.Divisions.{room-left, within-word, rest-fits, digits-fit, sum-fits, bring}
 use Rattle.sheet.proofs.given.brought_down.Statement.{statement}
 use Rattle.sheet.proofs.given.brought_down.Tie as tie
 
@@ -25,36 +23,30 @@ lesser-requires-2 c κs = search needs
 -- how far both numbers may go up
 record Room (c : tie.After-lesser2) : Type 0 where
   below : c .lesser2 .result ≤ c .before .before .args .x .place
-  some : 0 < c .lesser2 .result
-  word : c .lesser2 .result < 64
-  rest : c .before .before .args .x .rest * 2 ^ c .lesser2 .result < 2 ^ 64
-  digits : (c .before .before .args .x .digits + 1) * 2 ^ c .lesser2 .result ≤ 2 ^ 64
+  digits : c .lesser2 .result ≤ leadingZeros 64 (c .before .before .args .x .digits)
+  rest : c .lesser2 .result ≤ leadingZeros 64 (c .before .before .args .x .rest)
 
 room : (c : tie.After-lesser2) → Room c
 room c =
-    let b = c .before .before in
     let l = c .before .lesser .ensures in
     let k = c .lesser2 .ensures in
-    let den = b .args .den in
-    let x = b .args .x in
-    let f : c .lesser2 .result ≤ leadingZeros 64 (x .digits) = omega (arith, l .first, k .first) in
-    let g : c .lesser2 .result ≤ leadingZeros 64 (x .rest) = omega (arith, l .second, k .first) in
-    record {
-      below = omega (arith, k .second);
-      some = lesser-pos k (room-left den x (b .pre) l) (b .pre .place);
-      word = within-word den x (b .pre) _ f g;
-      rest = rest-fits den x (b .pre) _ f g;
-      digits = digits-fit den x (b .pre) _ f g;
-    }
+    record { below = omega (arith, k .second); digits = omega (arith, l .first, k .first); rest = omega (arith, l .second, k .first) }
 
-unshifted : (d t : ℕ) → (d + 1) * 2 ^ t ≤ 2 ^ 64 → d * 2 ^ t % 2 ^ 64 ≡ d * 2 ^ t
-unshifted d t h = mod-eq-of-lt (let p = pow-pos t in omega arith)
+-- the two numbers as the shifts leave them
+rest-in-word : (c : tie.After-lesser2) → c .before .before .args .x .rest * 2 ^ c .lesser2 .result < 2 ^ 64
+rest-in-word c = let b = c .before .before in rest-fits (b .args .den) (b .args .x) (b .pre) (omega arith) _ (room c .digits) (room c .rest)
+
+digits-in-word : (c : tie.After-lesser2) → c .before .before .args .x .digits * 2 ^ c .lesser2 .result < 2 ^ 64
+digits-in-word c = let b = c .before .before in digits-fit (b .args .den) (b .args .x) (b .pre) (omega arith) _ (room c .digits) (room c .rest)
+
+few : (c : tie.After-lesser2) → c .lesser2 .result < 64
+few c = let b = c .before .before in within-word (b .args .den) (b .args .x) (b .pre) (omega arith) _ (room c .digits) (room c .rest)
 
 shl-n : tie.Need-shl-n
-shl-n c = room c .word
+shl-n c = few c
 
 shl-t10 : tie.Need-shl-t10
-shl-t10 c = room c .word
+shl-t10 c = few c
 
 div-t12 : tie.Need-div-t12
 div-t12 c = search needs
@@ -62,10 +54,7 @@ div-t12 c = search needs
 add-t13 : tie.Need-add-t13
 add-t13 c =
     let b = c .before .before in
-    let x = b .args .x in
-    let t = c .lesser2 .result in
-    let r = room c in
-    rw (unshifted (x .digits) t (r .digits), mod-eq-of-lt (r .rest)) (omega (arith, few-digits (b .args .den) (x .rest) t (b .pre .left), r .digits))
+    rw (mod-eq-of-lt (digits-in-word c), mod-eq-of-lt (rest-in-word c)) (omega (arith, sum-fits (b .args .den) (b .args .x) (b .pre) (omega arith) _ (room c .digits) (room c .rest)))
 
 rem-t14 : tie.Need-rem-t14
 rem-t14 c = search needs
@@ -76,10 +65,10 @@ sub-t15 c = search needs
 returns : tie.Need-returns
 returns c =
     let b = c .before .before in
+    let den = b .args .den in
     let x = b .args .x in
-    let t = c .lesser2 .result in
-    let r = room c in
-    rw (unshifted (x .digits) t (r .digits), mod-eq-of-lt (r .rest)) (bring (b .args .den) t x (b .pre .left) (r .some) (r .below))
+    rw (mod-eq-of-lt (digits-in-word c), mod-eq-of-lt (rest-in-word c))
+    (bring den _ x (b .pre .divisor .0) (λ h. room-left den x (b .pre) h (c .before .lesser .ensures) (c .lesser2 .ensures)) (room c .below))
 
 pub brought-down-spec : {M : Type 1} → statement M
 brought-down-spec =
