@@ -61,6 +61,7 @@ fn level(up: bool, a: Sheet, b: Sheet) -> Sheet
     rounded(up, a.neg, am - bm, false, a.e)
 }
 
+// 1 for true, 0 for false.
 fn one_where(b: bool) -> u64
     ensures { λ r. ⌜ OneWhere b r ⌝ }
 {

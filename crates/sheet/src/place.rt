@@ -40,7 +40,7 @@ fn moved(x: Found, s: u64, u: u64) -> Found
     }
 }
 
-// The last t places are cut off.
+// The last t places are cut off: where the place is given, as that of a greater addend, and the digits have no say.
 pub fn cut(x: Found, t: u64) -> Found
     requires { ⌜ (t < 64) × (x .e + t < 2 ^ 64) ⌝ }
     ensures { λ r. ⌜ CutBy t x r ⌝ }
