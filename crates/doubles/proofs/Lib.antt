@@ -2,6 +2,7 @@
 pub mod Compare
 pub mod Within
 pub mod Pattern
+pub mod Neighbours
 pub mod Read
 pub mod Handed
 pub mod Shift

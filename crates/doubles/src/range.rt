@@ -5,7 +5,7 @@ ghost use lib.Dec.{T};
 ghost use lib.Ieee.Scale.{finite};
 ghost use Rattle.exact.specs.Fraction.{nat, leq};
 ghost use Rattle.doubles.specs.Double.{exactOf};
-ghost use Rattle.doubles.specs.Range.{within, acceptedTemperature, acceptedDensity, acceptedTarget, acceptedTolerance, withinTolerance};
+ghost use Rattle.doubles.specs.Range.{within, acceptedTemperature, acceptedPairTemperature, acceptedDensity, acceptedTarget, acceptedTolerance, withinTolerance};
 
 // Whether x, any f64, is finite and from low to high, ends included.
 pub fn lies_within(x: f64, low: f64, high: f64) -> bool
@@ -16,10 +16,18 @@ pub fn lies_within(x: f64, low: f64, high: f64) -> bool
     if low <= x { x <= high } else { false }
 }
 
+// The state sheet's and the density check's.
 pub fn accepts_temperature(t: f64) -> bool
     ensures { λ r. ⌜ r ≡ acceptedTemperature t ⌝ }
 {
     lies_within(t, 273.0, 1273.0)
+}
+
+// The pair check's: from the fraction 27316/100. No f64 lies from there up to the literal, so that this decides the same.
+pub fn accepts_pair_temperature(t: f64) -> bool
+    ensures { λ r. ⌜ r ≡ acceptedPairTemperature t ⌝ }
+{
+    lies_within(t, 273.16, 1273.0)
 }
 
 // From 1/1024.
