@@ -3,7 +3,7 @@
 
 The temperatures are those of a steriliser's plugs, the densities the rough search's (tests/rough_search.py), rounded to
 eight digits so that every machine makes the same file.  The tolerances are a little above the brackets' widths in
-docs/TOLERANCES.md.  The last five are wrong on purpose.  Lines come from the second program, with data/terms.bin.
+docs/TOLERANCES.md.  The last six are wrong on purpose.  Lines come from the second program, with data/terms.bin.
 `python3 data/propose.py` writes both files.  Assumes nothing.
 """
 
@@ -22,6 +22,7 @@ from second.bench import lines  # noqa: E402
 CELSIUS = [100, 105, 110, 115, 118, 121, 126, 134, 140]
 TOLERANCES = (1000.0, 1.0)  # Pa and J/kg, for plugs from 100 degrees on
 COLD = (2000.0, 2.0)  # at room temperature the brackets are wider
+ICE = (2500.0, 3.0)  # and at the triple point wider still
 
 
 def rounded(x):
@@ -36,6 +37,7 @@ def found(celsius):
 
 def plugs():
     """T, liquid, vapour, pressure tolerance, Gibbs tolerance of each proposal."""
+    yield found(0.01) + ICE  # the coldest cell there is
     yield found(25) + COLD
     for celsius in CELSIUS:
         yield found(celsius) + TOLERANCES
@@ -45,6 +47,7 @@ def plugs():
     yield (T, liquid, vapour, 100.0, 1.0)  # the pair itself, but a tolerance below any bracket's width: 9
     yield (T, liquid, rounded(vapour * 1000)) + TOLERANCES  # the vapour in g/m3: 7
     yield (math.nan, liquid, vapour) + TOLERANCES  # a gauge that fell out: 3
+    yield found(-0.1) + ICE  # 273.05 K, below the triple point, where no such cell is: 3
 
 
 def proposals():

@@ -1,4 +1,4 @@
-"""State sheet, density check and pair check, with the table of numbers in order (01, "Inputs" and "Verdicts").
+"""State sheet, density check and pair check, with the table of numbers in order (01, "Inputs" and "Verdicts"; 02 b).
 
 Any bytes and any f64s (as their 64 bits) are answered; assumes nothing.
 """
@@ -13,7 +13,8 @@ from .logarithm import logarithm_of_ratio
 from .sheet import exact
 from .term import first_broken, sound_length, terms_of
 
-TEMPERATURES = ((273, 1, 0), (1273, 1, 0))
+TEMPERATURES = ((273, 1, 0), (1273, 1, 0))  # of the state sheet and the density check
+PAIR_TEMPERATURES = ((27316, 100, 0), (1273, 1, 0))  # from the triple point on
 DENSITIES = ((1, 1, -10), (1288, 1, 0))
 TARGETS = ((0, 1, 0), (10 ** 9, 1, 0))
 TOLERANCES = ((0, 1, 0), (10 ** 6, 1, 0))
@@ -109,7 +110,7 @@ def pair_check(table, T, liquid, vapour, pressure_tolerance, gibbs_tolerance, bi
     broken = table_refusal(table)
     if broken:
         return refused(*broken)
-    if not within(T, TEMPERATURES):
+    if not within(T, PAIR_TEMPERATURES):
         return refused(3)
     if not (within(liquid, DENSITIES) and within(vapour, DENSITIES)):
         return refused(4)

@@ -14,7 +14,7 @@ from gen_pairs import liquid, near_322, vapour
 from second import f64
 from second.panel import chosen
 from second.tests import samples
-from second.tests.test_verdicts import CEILING_RHO, CEILING_T, CEILING_TABLE, NONE, OVER_TABLE
+from second.tests.test_verdicts import CEILING_RHO, CEILING_T, CEILING_TABLE, EASY, NONE, OVER_TABLE
 from second.verdict import density_check, pair_check, state_sheet
 from stream import record, run_of
 
@@ -61,7 +61,7 @@ def densities(random):
 
 def pairs(random):
     densities = near_322(random) if random.randrange(2) else [liquid(random), vapour(random)]
-    return [samples.temperature(random)] + densities + [tolerance(random), tolerance(random)]
+    return [samples.pair_temperature(random)] + densities + [tolerance(random), tolerance(random)]
 
 
 def aimed(random, table, fields):
@@ -74,13 +74,17 @@ def aimed(random, table, fields):
 
 
 def fixed():
-    """01's line at the ceiling, and the trap of a gap that is a subnormal."""
+    """01's line at the ceiling, the trap of a gap that is a subnormal, and 02 b's line at the triple point."""
     for table in (CEILING_TABLE, OVER_TABLE):
         yield 0, table, [W(CEILING_T), W(CEILING_RHO)]
         yield 1, table, [W(CEILING_T), W(CEILING_RHO), W(1e9), W(1e6)]
         yield 2, table, [W(CEILING_T), W(CEILING_RHO), W(1.0), W(1e6), W(1e6)]
     for goal, limit in ((1, 0), (1, 1), (0, 0), (samples.NEGATIVE, samples.NEGATIVE)):
         yield 1, NONE, [W(300.0), W(322.0), goal, limit]
+    for T in (W(273.16), samples.under(W(273.16)), W(273.05), W(273.0), W(-273.16), samples.NAN):
+        yield 0, EASY, [T, W(1.0)]
+        yield 1, EASY, [T, W(1.0), 0, W(1e6)]
+        yield 2, EASY, [T, W(323.0), W(321.0), W(1e6), W(1e6)]
 
 
 def calls():

@@ -30,9 +30,9 @@ SATURATION, EDGES, TABLES, DAMAGED, ODD = 360, 80, 120, 50, 400
 
 
 def along_the_line(count):
-    """T with the rough search's pair, from 273 K to 647 K."""
+    """T with the rough search's pair, from 273.16 K to 647 K."""
     for i in range(count):
-        T = 273 + 374 * i / (count - 1)
+        T = 273.16 + (647 - 273.16) * i / (count - 1)
         found = rough_search.pair(T)
         if found and found[1] >= 2.0 ** -10:
             yield [W(T), W(found[0]), W(found[1])]
@@ -43,6 +43,14 @@ def saturation():
     tolerances = [(1e5, 100.0), (2000.0, 1.0), (100.0, 100.0), (1e6, 1e-3), (0.0, 0.0)]
     for i, state in enumerate(along_the_line(SATURATION)):
         yield state + [W(x) for x in tolerances[i % len(tolerances)]]
+
+
+def cold():
+    """The search's pairs about the triple point, and one f64 below each T: at the f64 273.16 alone is one accepted."""
+    for T in (273.0, 273.05, 273.15, 273.16):
+        pair = [W(x) for x in rough_search.pair(T)]
+        for word in (samples.under(W(T)), W(T)):
+            yield [word] + pair + [W(1e4), W(10.0)]
 
 
 def smallest_tolerance(gap):
@@ -70,11 +78,11 @@ def edges(random):
 
 
 def close(random):
-    return [samples.temperature(random)] + near_322(random) + [WIDE, WIDE]
+    return [samples.pair_temperature(random)] + near_322(random) + [WIDE, WIDE]
 
 
 def anywhere(random):
-    return [samples.temperature(random), liquid(random), vapour(random), random.choice([0, WIDE, W(1e3)]), WIDE]
+    return [samples.pair_temperature(random), liquid(random), vapour(random), random.choice([0, WIDE, W(1e3)]), WIDE]
 
 
 def odd(random, proposal):
@@ -95,6 +103,7 @@ def all_runs():
     water = samples.table5()
     yield run(water, [], samples.sterilisers())
     yield run(water, saturation())
+    yield run(water, cold())
     yield run(water, edges(random))
     for _ in range(TABLES):
         kind = random.choice([samples.term, samples.gentle_term])

@@ -52,6 +52,14 @@ def temperature(random):
                           f64.word(1273.0)])
 
 
+def pair_temperature(random):
+    """Mostly in the pair check's range; at times below it, where the other calls still answer."""
+    first = f64.word(273.16)
+    colder = random.choice([under(first), f64.word(273.05), f64.word(273.0), between(random, 273, 273.16)])
+    return random.choice([between(random, 273.16, 1273), f64.word(random.randint(274, 1273)), first, f64.word(1273.0),
+                          colder])
+
+
 def density(random):
     """Even in its logarithm, even on the line, few bits, or an end of the range."""
     return random.choice([f64.word(2.0 ** random.uniform(-10, 10.33)), between(random, 0.001, 1288),
@@ -60,7 +68,7 @@ def density(random):
 
 def odd_f64(random):
     """Any bits, the values that programs trip over, and neighbours of limits."""
-    limit = f64.word(random.choice([0.0, 273.0, 1273.0, 2.0 ** -10, 1288.0, 322.0, 1e9, 1e6]))
+    limit = f64.word(random.choice([0.0, 273.0, 273.16, 1273.0, 2.0 ** -10, 1288.0, 322.0, 1e9, 1e6]))
     return random.choice([random.getrandbits(64), INFINITY, INFINITY | NEGATIVE, NAN, NAN | NEGATIVE, 0, NEGATIVE, 1,
                           NEGATIVE | 1, limit, above(limit), under(limit), limit ^ NEGATIVE])
 

@@ -1,4 +1,5 @@
-"""The rows of 01's "Both sides of the line", through the three public functions, as the program both_sides writes them.
+"""The rows of 01's "Both sides of the line", and those of 02 b, through the three public functions, as the program
+both_sides writes them.
 
     python3 -m second.tests.test_both_sides >crates/both_sides/stdout
 
@@ -18,7 +19,8 @@ number, the place, and the ends' bits.  The order of the rows, a group each:
     least gaps              density check
     stiffness about zero    density check
 
-Each row also says which numbers 01 allows it, so that the second program can't be wrong alone.  Assumes nothing.
+Each row also says which numbers the documents allow it, so that the second program can't be wrong alone.  Assumes
+nothing.
 """
 
 import os
@@ -53,18 +55,23 @@ def valued(label, word):
 
 
 def temperatures():
-    for label, t, allowed in (
-            ("T 273", W(273.0), (0,)),
-            ("T next under 273", under(W(273.0)), (3,)),
-            ("T 1273", W(1273.0), (0,)),
-            ("T next above 1273", above(W(1273.0)), (3,)),
-            ("T NaN", NAN, (3,)),
-            ("T infinity", INFINITY, (3,)),
-            ("T -infinity", INFINITY | NEGATIVE, (3,))):
+    """The pair check starts at 273.16, by the fraction, which lies just below that f64 (02 b)."""
+    for label, t, number, pair in (
+            ("T 273", W(273.0), 0, 3),
+            ("T next under 273", under(W(273.0)), 3, 3),
+            ("T 273.05", W(273.05), 0, 3),
+            ("T 273.16", W(273.16), 0, 0),
+            ("T next under 273.16", under(W(273.16)), 0, 3),
+            ("T -273.16", W(-273.16), 3, 3),
+            ("T 1273", W(1273.0), 0, 0),
+            ("T next above 1273", above(W(1273.0)), 3, 3),
+            ("T NaN", NAN, 3, 3),
+            ("T infinity", INFINITY, 3, 3),
+            ("T -infinity", INFINITY | NEGATIVE, 3, 3)):
         label = valued(label, t)
-        yield line("state sheet", label, state_sheet(EASY, t, RHO), allowed)
-        yield line("density check", label, density_check(EASY, t, RHO, 0, WIDE), allowed)
-        yield line("pair check", label, pair_check(EASY, t, LIQUID, VAPOUR, WIDE, WIDE), allowed)
+        yield line("state sheet", label, state_sheet(EASY, t, RHO), (number,))
+        yield line("density check", label, density_check(EASY, t, RHO, 0, WIDE), (number,))
+        yield line("pair check", label, pair_check(EASY, t, LIQUID, VAPOUR, WIDE, WIDE), (pair,))
 
 
 def densities():

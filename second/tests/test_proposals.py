@@ -10,6 +10,6 @@ def test_files():
 
 
 def test_numbers():
-    """The plugs are accepted; of the wrong ones each has its own reason."""
+    """The plugs are accepted; each of the wrong ones is refused for what is wrong with it."""
     numbers = [int(line.split()[1]) for line in data("lines.txt").decode().split("\n")[:-1]]
-    assert numbers == [0] * (1 + len(propose.CELSIUS)) + [9, 10, 9, 7, 3]
+    assert numbers == [0] * (2 + len(propose.CELSIUS)) + [9, 10, 9, 7, 3, 3]

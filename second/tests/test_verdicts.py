@@ -1,6 +1,7 @@
 """The answers: 01's example output, every row of its "Both sides of the line", traps, and the panel's choices."""
 
 import struct
+from fractions import Fraction
 
 from second import f64
 from second.bench import line, lines
@@ -51,10 +52,19 @@ def test_no_proposal_and_empty_table():
 
 def test_temperature_line():
     rho = W(1.0)
-    for T in (W(273.0), W(1273.0)):
+    for T in (W(273.16), W(1273.0)):
         assert numbers(EASY, T, rho) == (0, 0) and pair_number(T=T) in ANSWERED
-    for T in (under(W(273.0)), above(W(1273.0)), NAN, INFINITY, INFINITY | NEGATIVE, NEGATIVE, W(-300.0)):
+    for T in (under(W(273.0)), above(W(1273.0)), NAN, INFINITY, INFINITY | NEGATIVE, NEGATIVE, W(-300.0), W(-273.16)):
         assert numbers(EASY, T, rho) == (3, 3) and pair_number(T=T) == 3
+
+
+def test_triple_point_line():
+    """02 b: below the fraction 27316/100 the pair check alone refuses; no f64 is that fraction."""
+    rho, least = W(1.0), W(273.16)
+    assert fraction(f64.exact(under(least))) < Fraction(27316, 100) < fraction(f64.exact(least))
+    for T in (W(273.0), W(273.05), W(273.15), under(least)):
+        assert numbers(EASY, T, rho) == (0, 0) and pair_number(T=T) == 3
+        assert pair_check(table5(), T, NAN, NAN, NAN, NAN) == Answer(3, 0, (0, 0))
 
 
 def test_density_line():

@@ -1,4 +1,5 @@
-// Every row of document 01's "Both sides of the line", through the public functions of `verdict`: a line for each case. The stored output is
+// Every row of document 01's "Both sides of the line", and the pair check's temperatures of document 02, b, through the public functions of
+// `verdict`: a line for each case. The stored output is
 // the second program's (second/tests/test_both_sides.py, which also says the order), so nothing here judges an answer.
 mod asked; // asked.rt: one case through one function, and its line
 mod double; // double.rt: f64s by their bits

@@ -6,6 +6,10 @@ use crate::double::double;
 pub fn temperatures() {
     temperature(b"T 273", 0x4071100000000000);
     temperature(b"T next under 273", 0x40710FFFFFFFFFFF);
+    temperature(b"T 273.05", 0x407110CCCCCCCCCD);
+    temperature(b"T 273.16", 0x4071128F5C28F5C3);
+    temperature(b"T next under 273.16", 0x4071128F5C28F5C2);
+    temperature(b"T -273.16", 0xC071128F5C28F5C3);
     temperature(b"T 1273", 0x4093E40000000000);
     temperature(b"T next above 1273", 0x4093E40000000001);
     temperature(b"T NaN", 0x7FF8000000000000);

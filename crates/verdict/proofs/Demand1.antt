@@ -2,11 +2,17 @@
 -- (`specs/Rules.antt`) says that its check k, counted from 0, fails and that none before it does. Assumes nothing.
 use Prim.Native.Nat.{ℕ, _<_}
 use mathlib.Core.Path.{_≡_, refl, _∙_, ap}
+use mathlib.Core.Bool.{true, false}
 use mathlib.Core.List.{List}
-use mathlib.Core.Logic.{_↔_, _⊎_, ⊎-elim}
+use mathlib.Core.Logic.{_↔_, Iff·trans, _⊎_, ⊎-elim}
 use native.Mathlib.Omega.{arith}
+use lib.ListN.{length}
+use lib.Dec.{eqb}
 use lib.Ieee.{Float}
-use Rattle.term.specs.Sound.{firstBroken}
+use Rattle.exact.specs.Fraction.{Fraction, nat, parts}
+use Rattle.doubles.specs.Range.{within, Outside}
+use Rattle.doubles.proofs.Within.{outside}
+use Rattle.term.specs.Sound.{soundLength, soundTable, firstBroken}
 use Rattle.verdict.specs.declared.Refusal.{Refusal}
 use Rattle.verdict.specs.declared.Refusal.the-variants.{TableLength, BrokenTerm, Temperature, Density, Target, Tolerance, Sides, Ceiling}
 use Rattle.verdict.specs.declared.SheetAnswer.{SheetAnswer}
@@ -17,6 +23,7 @@ use Rattle.verdict.specs.Reading.{number, place, handed, zeros, sheetNum
 use Rattle.verdict.specs.Steps.{FailsAt, AllPass}
 use Rattle.verdict.specs.Rules.{stateSteps, stateAnswer, densitySteps, densityAnswer, pairSteps, pairAnswer}
 use Rattle.verdict.proofs.Order.{exactly, either, accepted, fails-at, on-pass, on-fail}
+use Rattle.verdict.proofs.Tables.{table-parts, sound}
 
 -- ---- zeros: the numbers 1 to 8 hand out nothing, and only 2 has a place
 pub refused-zeros : (a : Answer) → 0 < number a → number a < 9 → handed a ≡ zeros
@@ -51,6 +58,14 @@ pub sheet-no-place : (a : SheetAnswer) → (sheetNumber a ≡ 2 → ⊥) → she
 sheet-no-place (sheet.Answered p s) h = refl
 sheet-no-place (sheet.Refused why) h = refusal-place why h
 
+-- ---- 3 is asked after 1 and 2: the table is sound, and T is no finite number or not in the call's range
+after-table : (table : List ℕ) (low high : Fraction) (t : Float)
+    → ((soundLength (length table) ≡ true) × ((eqb (firstBroken table) 0 ≡ true) × (within low high t ≡ false))) ↔ ((soundTable table ≡ true) × Outside low high t)
+after-table table low high t = (
+  λ f. (sound table (f .0) (f .1 .0), outside low high t .0 (f .1 .1)),
+  λ s. let rows = table-parts table (s .0) in (rows .0, (rows .1, outside low high t .1 (s .1))),
+)
+
 -- ---- the state sheet
 module _ (w : ℕ) (table : List ℕ) (t rho : Float) where
   -- the table's length
@@ -67,6 +82,10 @@ module _ (w : ℕ) (table : List ℕ) (t rho : Float) where
   pub state-3 : sheetNumber (stateAnswer w table t rho) ≡ 3 ↔ FailsAt 2 (stateSteps w table t rho)
   unfolding stateAnswer
   state-3 = exactly sheetNumber 3 2 (stateSteps w table t rho) _ tt
+
+  -- in full: from 273
+  pub state-temperature : sheetNumber (stateAnswer w table t rho) ≡ 3 ↔ ((soundTable table ≡ true) × Outside (nat 273) (nat 1273) t)
+  state-temperature = Iff·trans state-3 (after-table table (nat 273) (nat 1273) t)
 
   -- density
   pub state-4 : sheetNumber (stateAnswer w table t rho) ≡ 4 ↔ FailsAt 3 (stateSteps w table t rho)
@@ -106,6 +125,10 @@ module _ (w : ℕ) (table : List ℕ) (t rho target tolerance : Float) where
   pub density-3 : number (densityAnswer w table t rho target tolerance) ≡ 3 ↔ FailsAt 2 (densitySteps w table t rho target tolerance)
   unfolding densityAnswer
   density-3 = exactly number 3 2 (densitySteps w table t rho target tolerance) _ tt
+
+  -- in full: from 273
+  pub density-temperature : number (densityAnswer w table t rho target tolerance) ≡ 3 ↔ ((soundTable table ≡ true) × Outside (nat 273) (nat 1273) t)
+  density-temperature = Iff·trans density-3 (after-table table (nat 273) (nat 1273) t)
 
   -- density
   pub density-4 : number (densityAnswer w table t rho target tolerance) ≡ 4 ↔ FailsAt 3 (densitySteps w table t rho target tolerance)
@@ -165,6 +188,11 @@ module _ (w : ℕ) (table : List ℕ) (t liquid vapour pressureTolerance gibbsTo
   pub pair-3 : number (pairAnswer w table t liquid vapour pressureTolerance gibbsTolerance) ≡ 3 ↔ FailsAt 2 (pairSteps w table t liquid vapour pressureTolerance gibbsTolerance)
   unfolding pairAnswer
   pair-3 = exactly number 3 2 (pairSteps w table t liquid vapour pressureTolerance gibbsTolerance) _ tt
+
+  -- in full: from the fraction 27316/100 (document 02, b)
+  pub pair-temperature : number (pairAnswer w table t liquid vapour pressureTolerance gibbsTolerance) ≡ 3
+      ↔ ((soundTable table ≡ true) × Outside (parts false 27316 100) (nat 1273) t)
+  pair-temperature = Iff·trans pair-3 (after-table table (parts false 27316 100) (nat 1273) t)
 
   -- a density
   pub pair-4 : number (pairAnswer w table t liquid vapour pressureTolerance gibbsTolerance) ≡ 4 ↔ FailsAt 3 (pairSteps w table t liquid vapour pressureTolerance gibbsTolerance)

@@ -2,16 +2,13 @@
 -- the equation itself lies between them at every level from 256. Where a number has no ends they are zero (`proofs/Demand1.antt`). Assumes nothing.
 use Prim.Native.Nat.{ℕ, _≤_}
 use mathlib.Core.Path.{_≡_, refl, ap}
-use mathlib.Core.Bool.{true}
 use mathlib.Core.List.{List}
-use lib.ListN.{length}
-use lib.Dec.{T, eqb, lit≤}
+use lib.Dec.{T, lit≤}
 use lib.Ieee.{Float, fits, binary64}
 use Rattle.exact.specs.Fraction.{Fraction, _⊖_}
 use Rattle.exact.specs.Fraction.Order.{≺→≼, ≺-trans}
 use Rattle.doubles.specs.Double.{exactOf}
 use Rattle.doubles.specs.Range.{acceptedDensity}
-use Rattle.term.specs.Sound.{soundTable, soundLength, firstBroken}
 use Rattle.bracket.specs.declared.Bracket.{Bracket}
 use Rattle.bracket.specs.Span.{_∈_}
 use Rattle.bracket.specs.Rules.{ends}
@@ -25,7 +22,8 @@ use Rattle.verdict.specs.Rules.{handedOut, stateSteps, stateAnswer, dens
 use Rattle.verdict.specs.Balance.{Covers}
 use Rattle.verdict.specs.Handed.{Handy}
 use Rattle.verdict.proofs.Order.{accepted, all-pass, fails-at}
-use Rattle.verdict.proofs.Tests.{both, together, holds, temperature-in, density-in, sides}
+use Rattle.verdict.proofs.Tables.{sound}
+use Rattle.verdict.proofs.Tests.{both, holds, temperature-in, above-triple-point, density-in, sides}
 use Rattle.verdict.proofs.HandedOut.{handed-covers}
 use Rattle.verdict.proofs.Ready.{pressure-handy, stiffness-handy, targetGap-handy, pressureGap-handy, gibbsGap-handy}
 use Rattle.verdict.proofs.Demand1.{density-9, density-11, pair-9, pair-10}
@@ -33,11 +31,6 @@ use Rattle.verdict.proofs.Demand1.{density-9, density-11, pair-9, pair-
 -- what lies in a bracket is covered by the ends that are handed out for it
 between : (e : Ends) (b : Bracket) → Handy b → e ≡ handedOut b → {x : Fraction} → x ∈ ends b → Covers e b x
 between e b h p i = rw p (handed-covers b h i)
-
--- a table whose length and whose terms pass is sound
-sound : (table : List ℕ) → soundLength (length table) ≡ true → eqb (firstBroken table) 0 ≡ true → soundTable table ≡ true
-unfolding soundTable
-sound table p q = together _ _ p q
 
 -- ---- the state sheet
 module _ (table : List ℕ) (t rho : Float) (zero : sheetNumber (stateAnswer 32 table t rho) ≡ 0) where
@@ -140,7 +133,7 @@ module _ (table : List ℕ) (t liquid vapour pressureTolerance gibbsTolerance : 
     unfolding pairAnswer
     pair-covers N high =
         let steps = accepted number 0 (pairSteps 32 table t liquid vapour pressureTolerance gibbsTolerance) _ tt refl .0 zero in
-        let hot = holds (steps .1 .1 .0) in
+        let hot = above-triple-point t (steps .1 .1 .0) in
         let thin = holds (both (acceptedDensity liquid) (acceptedDensity vapour) (steps .1 .1 .1 .0) .1) in
         between _ _ (pressure-handy table (sound table (steps .0) (steps .1 .0)) t hot vapour thin) pair-ends
         (covers-pressure 31 N (lit≤ tt) high table (temperature-in t hot) (density-in vapour thin))
@@ -161,7 +154,7 @@ module _ (table : List ℕ) (t liquid vapour pressureTolerance gibbsTolerance : 
         (pressureAt N table (exactOf t) (exactOf liquid) ⊖ pressureAt N table (exactOf t) (exactOf vapour))
     pair-gap-covers N high =
         let steps = pair-9 32 table t liquid vapour pressureTolerance gibbsTolerance .0 nine in
-        let hot = holds (steps .1 .1 .0) in
+        let hot = above-triple-point t (steps .1 .1 .0) in
         let d = both (acceptedDensity liquid) (acceptedDensity vapour) (steps .1 .1 .1 .0) in
         let dense = holds (d .0) in
         let thin = holds (d .1) in
@@ -184,7 +177,7 @@ module _ (table : List ℕ) (t liquid vapour pressureTolerance gibbsTolerance : 
         (gibbsGapAt N table (exactOf t) (exactOf liquid) (exactOf vapour))
     pair-gibbs-covers N high =
         let steps = pair-10 32 table t liquid vapour pressureTolerance gibbsTolerance .0 ten in
-        let hot = holds (steps .1 .1 .0) in
+        let hot = above-triple-point t (steps .1 .1 .0) in
         let d = both (acceptedDensity liquid) (acceptedDensity vapour) (steps .1 .1 .1 .0) in
         let dense = holds (d .0) in
         let thin = holds (d .1) in
@@ -208,7 +201,7 @@ module _ (table : List ℕ) (t liquid vapour pressureTolerance gibbsTolerance : 
       → Covers (handed (pairAnswer 32 table t liquid vapour pressureTolerance gibbsTolerance)) (stiffness 32 table (exactOf t) (exactOf liquid))
       (stiffnessAt N table (exactOf t) (exactOf liquid))
   liquid-stiffness-covers steps N high =
-      let hot = holds (steps .1 .1 .0) in
+      let hot = above-triple-point t (steps .1 .1 .0) in
       let dense = holds (both (acceptedDensity liquid) (acceptedDensity vapour) (steps .1 .1 .1 .0) .0) in
       between _ _ (stiffness-handy table (sound table (steps .0) (steps .1 .0)) t hot liquid dense) (liquid-stiffness-ends steps)
       (covers-stiffness 31 N (lit≤ tt) high table (temperature-in t hot) (density-in liquid dense))
@@ -217,7 +210,7 @@ module _ (table : List ℕ) (t liquid vapour pressureTolerance gibbsTolerance : 
       → Covers (handed (pairAnswer 32 table t liquid vapour pressureTolerance gibbsTolerance)) (stiffness 32 table (exactOf t) (exactOf vapour))
       (stiffnessAt N table (exactOf t) (exactOf vapour))
   vapour-stiffness-covers steps N high =
-      let hot = holds (steps .1 .1 .0) in
+      let hot = above-triple-point t (steps .1 .1 .0) in
       let thin = holds (both (acceptedDensity liquid) (acceptedDensity vapour) (steps .1 .1 .1 .0) .1) in
       between _ _ (stiffness-handy table (sound table (steps .0) (steps .1 .0)) t hot vapour thin) (vapour-stiffness-ends steps)
       (covers-stiffness 31 N (lit≤ tt) high table (temperature-in t hot) (density-in vapour thin))

@@ -17,7 +17,7 @@ use Rattle.verdict.specs.Rules.{pairSteps, pairAnswer, densitySteps, den
 use Rattle.verdict.specs.Balance.{Balanced, BalancedBeyond, SoundPair, OnTarget, OnTargetBeyond, SoundDensity}
 use Rattle.verdict.proofs.Order.{accepted}
 use Rattle.verdict.proofs.Tables.{table-parts}
-use Rattle.verdict.proofs.Tests.{both, together, holds, temperature-in, density-in, sides, on-sides, gap-within, gap-beyond, pushes-above, pushes-beyond}
+use Rattle.verdict.proofs.Tests.{both, together, holds, temperature-in, above-triple-point, density-in, sides, on-sides, gap-within, gap-beyond, pushes-above, pushes-beyond}
 
 under : (b : Bracket) → value (b .hi) ≼ nat 1000000000 → underCeiling b ≡ true
 unfolding underCeiling
@@ -31,7 +31,7 @@ module _ (v : ℕ) (wide : 7 ≤ v) (table : List ℕ) (t liquid vapour pressure
   unfolding pairAnswer
   accepted-pair e N high =
       let steps = accepted number 0 (pairSteps (suc v) table t liquid vapour pressureTolerance gibbsTolerance) _ tt refl .0 e in
-      let T = temperature-in t (holds (steps .1 .1 .0)) in
+      let T = temperature-in t (above-triple-point t (steps .1 .1 .0)) in
       let densities = both (acceptedDensity liquid) (acceptedDensity vapour) (steps .1 .1 .1 .0) in
       let l = density-in liquid (holds (densities .0)) in
       let g = density-in vapour (holds (densities .1)) in
@@ -51,7 +51,7 @@ module _ (v : ℕ) (wide : 7 ≤ v) (table : List ℕ) (t liquid vapour pressure
   unfolding pairAnswer
   good-pair sound N high good =
       let rows = table-parts table (sound .table-sound) in
-      let T = temperature-in t (holds (sound .temperature)) in
+      let T = temperature-in t (above-triple-point t (sound .temperature)) in
       let l = density-in liquid (holds (sound .liquid-density)) in
       let g = density-in vapour (holds (sound .vapour-density)) in
       let apart = ≺→≼ (≺-trans (sound .vapour-side) (sound .liquid-side)) in

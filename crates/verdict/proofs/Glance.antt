@@ -7,7 +7,7 @@ use lib.ListN.{length}
 use lib.Dec.{eqb}
 use lib.Ieee.{Float}
 use Rattle.doubles.specs.Double.{exactOf}
-use Rattle.doubles.specs.Range.{acceptedTemperature, acceptedDensity, acceptedTolerance}
+use Rattle.doubles.specs.Range.{acceptedPairTemperature, acceptedDensity, acceptedTolerance}
 use Rattle.term.specs.Sound.{soundLength, firstBroken}
 use Rattle.equation.specs.Rules.{pressure, stiffness, gibbsGap, pressureGap}
 use Rattle.verdict.specs.declared.Refusal.the-variants.{TableLength, BrokenTerm, Temperature, Density, Tolerance, Sides, Ceiling}
@@ -18,7 +18,7 @@ pub pair-checks : (w : ℕ) (table : List ℕ) (t liquid vapour pressureToleranc
     → pairSteps w table t liquid vapour pressureTolerance gibbsTolerance
     ≡ record { passes = soundLength (length table); otherwise = Refused TableLength }
     ∷ record { passes = eqb (firstBroken table) 0; otherwise = Refused (BrokenTerm (firstBroken table)) }
-    ∷ record { passes = acceptedTemperature t; otherwise = Refused Temperature }
+    ∷ record { passes = acceptedPairTemperature t; otherwise = Refused Temperature }
     ∷ record { passes = acceptedDensity liquid && acceptedDensity vapour; otherwise = Refused Density }
     ∷ record { passes = acceptedTolerance pressureTolerance && acceptedTolerance gibbsTolerance; otherwise = Refused Tolerance }
     ∷ record { passes = onSides liquid vapour; otherwise = Refused Sides }

@@ -15,11 +15,16 @@ use Rattle.verdict.specs.declared.Refusal.the-variants.{TableLength, Bro
 use Rattle.verdict.specs.Steps.{Step, firstFailing}
 use Rattle.verdict.specs.Rules.{tableSteps}
 use Rattle.verdict.proofs.Order.{on-pass, fails-at}
-use Rattle.verdict.proofs.Tests.{both}
+use Rattle.verdict.proofs.Tests.{both, together}
 
 pub table-parts : (table : List ℕ) → soundTable table ≡ true → (soundLength (length table) ≡ true) × (eqb (firstBroken table) 0 ≡ true)
 unfolding soundTable
 table-parts table p = both (soundLength (length table)) (eqb (firstBroken table) 0) p
+
+-- a table whose length and whose terms pass is sound
+pub sound : (table : List ℕ) → soundLength (length table) ≡ true → eqb (firstBroken table) 0 ≡ true → soundTable table ≡ true
+unfolding soundTable
+sound table p q = together _ _ p q
 
 module _ {A : Type 0} (refused : Refusal → A) (table : List ℕ) (rest : List (Step A)) (last : A) where
   pub on-length : tableAnswer table ≡ Length → refused TableLength ≡ firstFailing (tableSteps refused table rest) last

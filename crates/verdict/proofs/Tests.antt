@@ -6,13 +6,13 @@ use lib.Ieee.{Float}
 use lib.Ieee.Scale.{finite}
 use borrow.Author.Tests.{not-true, not-false}
 use Rattle.exact.specs.Fraction.{Fraction, nat, parts, negate, _⊕_, _≼_, _≺_, leq}
-use Rattle.exact.specs.Fraction.Order.{≼-leq, ≺-leq, leq-true, leq-false, ≺-≼-trans}
+use Rattle.exact.specs.Fraction.Order.{≼-by, ≼-leq, ≺-leq, leq-true, leq-false, ≺-≼-trans}
 use Rattle.exact.specs.Ends.{Within, absolute}
 use Rattle.exact.proofs.Width.{passes-within, passes-upper, passes-lower, above-width}
 use Rattle.sheet.specs.Number.{value}
 use Rattle.doubles.specs.Double.{exactOf}
-use Rattle.doubles.specs.Range.{acceptedTemperature, acceptedDensity, acceptedTarget, acceptedTolerance, withinTolerance}
-use Rattle.doubles.proofs.Within.{inside}
+use Rattle.doubles.specs.Range.{acceptedTemperature, acceptedPairTemperature, acceptedDensity, acceptedTarget, acceptedTolerance, withinTolerance}
+use Rattle.doubles.proofs.Within.{inside, from-lower}
 use Rattle.bracket.specs.declared.Bracket.{Bracket}
 use Rattle.bracket.specs.Span.{_∈_}
 use Rattle.bracket.specs.Rules.{ends}
@@ -40,6 +40,11 @@ holds p = subst T (sym p) tt
 
 pub temperature-in : (t : Float) → T (acceptedTemperature t) → Temperature (exactOf t)
 temperature-in t h = let i = inside (nat 273) (nat 1273) t h in record { cold = i .above; hot = i .below }
+
+-- from 273.16 is from 273
+pub above-triple-point : (t : Float) → acceptedPairTemperature t ≡ true → T (acceptedTemperature t)
+unfolding nat parts leq
+above-triple-point t h = from-lower (parts false 27316 100) (nat 273) (nat 1273) (≼-by (nat 273) (parts false 27316 100) tt) t (holds h)
 
 pub density-in : (rho : Float) → T (acceptedDensity rho) → Density (exactOf rho)
 density-in rho h = let i = inside (parts false 1 1024) (nat 1288) rho h in record { thin = i .above; dense = i .below }

@@ -9,7 +9,7 @@ use Rattle.exact.specs.Fraction.{Fraction, nat, _⊕_, _⊖_, _≼_, _≺_, _�
 use Rattle.exact.specs.Ends.{width, absolute}
 use Rattle.sheet.specs.Number.{value}
 use Rattle.doubles.specs.Double.{exactOf}
-use Rattle.doubles.specs.Range.{acceptedTemperature, acceptedDensity, acceptedTarget, acceptedTolerance}
+use Rattle.doubles.specs.Range.{acceptedTemperature, acceptedPairTemperature, acceptedDensity, acceptedTarget, acceptedTolerance}
 use Rattle.term.specs.Sound.{soundTable}
 use Rattle.bracket.specs.declared.Bracket.{Bracket}
 use Rattle.verdict.specs.declared.Ends.{Ends}
@@ -47,10 +47,10 @@ pub record BalancedBeyond (w N : ℕ) (table : List ℕ) (T liquid vapour pressu
   pub liquid-pushes : bracketWidth (stiffness w table T liquid) ≺ stiffnessAt N table T liquid
   pub vapour-pushes : bracketWidth (stiffness w table T vapour) ≺ stiffnessAt N table T vapour
 
--- a sound table, inputs in range, each density on its own side, and no upper end of pressure above the ceiling
+-- a sound table, inputs in the pair check's ranges, each density on its own side, and no upper end of pressure above the ceiling
 pub record SoundPair (w : ℕ) (table : List ℕ) (t liquid vapour pressureTolerance gibbsTolerance : Float) : Type 0 where
   pub table-sound : soundTable table ≡ true
-  pub temperature : acceptedTemperature t ≡ true
+  pub temperature : acceptedPairTemperature t ≡ true
   pub liquid-density : acceptedDensity liquid ≡ true
   pub vapour-density : acceptedDensity vapour ≡ true
   pub pressure-tolerance : acceptedTolerance pressureTolerance ≡ true

@@ -10,7 +10,7 @@ use Rattle.exact.specs.Fraction.{nat, leq}
 use Rattle.sheet.specs.Number.{value}
 use Rattle.doubles.specs.Double.{exactOf}
 use Rattle.doubles.specs.Handed.{doubleOf}
-use Rattle.doubles.specs.Range.{acceptedTemperature, acceptedDensity, acceptedTarget, acceptedTolerance, withinTolerance}
+use Rattle.doubles.specs.Range.{acceptedTemperature, acceptedPairTemperature, acceptedDensity, acceptedTarget, acceptedTolerance, withinTolerance}
 use Rattle.term.specs.Sound.{soundLength, firstBroken}
 use Rattle.bracket.specs.declared.Bracket.{Bracket}
 use Rattle.equation.specs.Rules.{pressure, stiffness, gibbsGap, targetGap, pressureGap}
@@ -100,7 +100,7 @@ unfoldable pub densityAnswer : ℕ → List ℕ → (t rho target tolerance : Fl
 densityAnswer w table t rho target tolerance =
     firstFailing (densitySteps w table t rho target tolerance) (Accepted (handedOut (pressure w table (exactOf t) (exactOf rho))))
 
--- ---- the pair check: all but 5 and 12
+-- ---- the pair check: all but 5 and 12; its temperatures start at the triple point (document 02, b)
 
 -- 10 and 11, on the brackets of the Gibbs gap and of the two stiffnesses, the liquid's first
 abbrev pub balanceWorked : (gibbs l v : Bracket) → (gibbsTolerance : Float) → List (Step Answer)
@@ -129,7 +129,7 @@ pairRest w table t liquid vapour pressureTolerance gibbsTolerance =
 -- 3, 4, 6, 7, and what follows
 abbrev pub pairInputs : ℕ → List ℕ → (t liquid vapour pressureTolerance gibbsTolerance : Float) → List (Step Answer)
 pairInputs w table t liquid vapour pressureTolerance gibbsTolerance =
-    record { passes = acceptedTemperature t; otherwise = Refused Temperature }
+    record { passes = acceptedPairTemperature t; otherwise = Refused Temperature }
     ∷ record { passes = acceptedDensity liquid && acceptedDensity vapour; otherwise = Refused Density }
     ∷ record { passes = acceptedTolerance pressureTolerance && acceptedTolerance gibbsTolerance; otherwise = Refused Tolerance }
     ∷ record { passes = onSides liquid vapour; otherwise = Refused Sides }

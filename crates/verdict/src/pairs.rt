@@ -1,4 +1,4 @@
-// The pair check: all numbers but 5 and 12. Liquid and vapour have one temperature.
+// The pair check: all numbers but 5 and 12. Liquid and vapour have one temperature, from the triple point on.
 use crate::Answer;
 use crate::Refusal;
 use crate::State;
@@ -151,7 +151,7 @@ fn screened(
     ensures { λ r. ⌜ r ≡ firstFailing (pairInputs 32 (now (table .entry)) t liquid vapour «pressure_tolerance» «gibbs_tolerance») (Accepted (handedOut (pressure 32 (now (table .entry)) (exactOf t) (exactOf vapour)))) ⌝ }
     ensures { λ r. ⌜ AnswerNumbers r ⌝ }
 {
-    if !doubles::range::accepts_temperature(t) {
+    if !doubles::range::accepts_pair_temperature(t) {
         return Answer::Refused(Refusal::Temperature);
     }
     if !accepts_densities(liquid, vapour) {

@@ -4,17 +4,17 @@ use borrow.Author.Needs.{needs}
 use Rattle.exact.specs.Fraction.Order.{≺→≼, ≺-trans}
 use Rattle.doubles.specs.Range.{acceptedDensity, acceptedTolerance}
 use Rattle.verdict.proofs.Order.{on-pass, fails-at}
-use Rattle.verdict.proofs.Tests.{both, holds, passed, failed, sides, density-finite, tolerance-finite}
+use Rattle.verdict.proofs.Tests.{both, holds, passed, failed, above-triple-point, sides, density-finite, tolerance-finite}
 use Rattle.verdict.proofs.HandedOut.{zeros-numbers}
 use Rattle.verdict.proofs.pairs.screened.Statement.{statement}
 use Rattle.verdict.proofs.pairs.screened.Tie as tie
 
-accepts-temperature-requires : tie.Need-accepts-temperature-requires
-accepts-temperature-requires c κs = search needs
+accepts-pair-temperature-requires : tie.Need-accepts-pair-temperature-requires
+accepts-pair-temperature-requires c κs = search needs
 
 returns : tie.Need-returns
 returns c = (
-  sym (fails-at 0 _ _ (failed (c .before .accepts-temperature .ensures) (c .if1 .taken))),
+  sym (fails-at 0 _ _ (failed (c .before .accepts-pair-temperature .ensures) (c .if1 .taken))),
   zeros-numbers,
 )
 
@@ -23,7 +23,7 @@ accepts-densities-requires c κs = search needs
 
 returns-2 : tie.Need-returns-2
 returns-2 c = (
-  sym (fails-at 1 _ _ (passed (c .before .before .before .accepts-temperature .ensures) (c .before .before .if1 .left), failed (c .before .accepts-densities .ensures) (c .if2 .taken))),
+  sym (fails-at 1 _ _ (passed (c .before .before .before .accepts-pair-temperature .ensures) (c .before .before .if1 .left), failed (c .before .accepts-densities .ensures) (c .if2 .taken))),
   zeros-numbers,
 )
 
@@ -32,7 +32,7 @@ accepts-tolerances-requires c κs = search needs
 
 returns-3 : tie.Need-returns-3
 returns-3 c = (
-  sym (fails-at 2 _ _ (passed (c .before .before .before .before .before .accepts-temperature .ensures) (c .before .before .before .before .if1 .left), (passed (c .before .before .before .accepts-densities .ensures) (c .before .before .if2 .left), failed (c .before .accepts-tolerances .ensures) (c .if3 .taken)))),
+  sym (fails-at 2 _ _ (passed (c .before .before .before .before .before .accepts-pair-temperature .ensures) (c .before .before .before .before .if1 .left), (passed (c .before .before .before .accepts-densities .ensures) (c .before .before .if2 .left), failed (c .before .accepts-tolerances .ensures) (c .if3 .taken)))),
   zeros-numbers,
 )
 
@@ -44,7 +44,7 @@ on-sides-requires c κs =
 
 returns-4 : tie.Need-returns-4
 returns-4 c = (
-  sym (fails-at 3 _ _ (passed (c .before .before .before .before .before .before .before .accepts-temperature .ensures) (c .before .before .before .before .before .before .if1 .left), (passed (c .before .before .before .before .before .accepts-densities .ensures) (c .before .before .before .before .if2 .left), (passed (c .before .before .before .accepts-tolerances .ensures) (c .before .before .if3 .left), failed (c .before .on-sides .ensures) (c .if4 .taken))))),
+  sym (fails-at 3 _ _ (passed (c .before .before .before .before .before .before .before .accepts-pair-temperature .ensures) (c .before .before .before .before .before .before .if1 .left), (passed (c .before .before .before .before .before .accepts-densities .ensures) (c .before .before .before .before .if2 .left), (passed (c .before .before .before .accepts-tolerances .ensures) (c .before .before .if3 .left), failed (c .before .on-sides .ensures) (c .if4 .taken))))),
   zeros-numbers,
 )
 
@@ -56,7 +56,7 @@ worked-requires c κs =
     let apart = sides (a .liquid) (a .vapour) (passed (c .before .on-sides .ensures) (c .if4 .left)) in
     record {
       table-sound = c .before .before .before .before .before .before .before .before .before .pre;
-      temperature = holds (passed (c .before .before .before .before .before .before .before .accepts-temperature .ensures) (c .before .before .before .before .before .before .if1 .left));
+      temperature = above-triple-point (a .t) (passed (c .before .before .before .before .before .before .before .accepts-pair-temperature .ensures) (c .before .before .before .before .before .before .if1 .left));
       liquid-density = holds (d .0);
       vapour-density = holds (d .1);
       pressure-tolerance = tolerance-finite (a .pressure-tolerance) (holds (near .0));
@@ -68,7 +68,7 @@ returns-5 : tie.Need-returns-5
 returns-5 c = (
   c .worked .ensures .0
       ∙ sym
-      (on-pass _ _ _ (passed (c .before .before .before .before .before .before .before .before .accepts-temperature .ensures) (c .before .before .before .before .before .before .before .if1 .left))
+      (on-pass _ _ _ (passed (c .before .before .before .before .before .before .before .before .accepts-pair-temperature .ensures) (c .before .before .before .before .before .before .before .if1 .left))
       ∙ on-pass _ _ _ (passed (c .before .before .before .before .before .before .accepts-densities .ensures) (c .before .before .before .before .before .if2 .left))
       ∙ on-pass _ _ _ (passed (c .before .before .before .before .accepts-tolerances .ensures) (c .before .before .before .if3 .left))
       ∙ on-pass _ _ _ (passed (c .before .before .on-sides .ensures) (c .before .if4 .left))),
@@ -76,4 +76,4 @@ returns-5 c = (
 )
 
 pub screened-spec : {M : Type 1} → statement M
-screened-spec = tie.close (tie.spec accepts-temperature-requires returns accepts-densities-requires returns-2 accepts-tolerances-requires returns-3 on-sides-requires returns-4 worked-requires returns-5)
+screened-spec = tie.close (tie.spec accepts-pair-temperature-requires returns accepts-densities-requires returns-2 accepts-tolerances-requires returns-3 on-sides-requires returns-4 worked-requires returns-5)
