@@ -15,11 +15,12 @@
 
 enum { LONGEST_TABLE = 576, NUMBERS = 5, BYTES = 8 * NUMBERS };
 
+/* By the pair check's numbers. */
 static const char *const reasons[] = {
     "accepted",
     "the table of terms has a length that no table has",
     "a term of the table breaks a rule",
-    "the temperature is not between 273 and 1273 K",
+    "the temperature is not between 273.16 and 1273 K",
     "a density is not between 1/1024 and 1288 kg/m3",
     "the target pressure is not between 0 and 10^9 Pa",
     "a tolerance is not between 0 and 10^6",

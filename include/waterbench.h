@@ -31,7 +31,7 @@ enum wb_number {
     WB_ACCEPTED = 0,
     WB_TABLE_LENGTH = 1,    /* the table is not 9 to 576 bytes in nines */
     WB_BROKEN_TERM = 2,     /* a term breaks a rule; WB_PLACE says which */
-    WB_TEMPERATURE = 3,     /* T is not 273 to 1273 K */
+    WB_TEMPERATURE = 3,     /* T is not 273 to 1273 K; for wb_pair, not 273.16 to 1273 K */
     WB_DENSITY = 4,         /* a density is not 1/1024 to 1288 kg/m3 */
     WB_TARGET = 5,          /* the target pressure is not 0 to 10^9 Pa */
     WB_TOLERANCE = 6,       /* a tolerance is not 0 to 10^6 */
@@ -46,19 +46,20 @@ enum wb_number {
 extern "C" {
 #endif
 
-/* The state sheet: what the equation gives at a temperature (K) and a density (kg/m3).
+/* The state sheet: what the equation gives at a temperature (K, from 273 on) and a density (kg/m3).
  * The ends are the pressure's (Pa), then those of the stiffness, pressure by density at fixed temperature
  * (Pa m3/kg); a refused sheet has zeros.  Refusals: 1 to 4 and 8. */
 uint64_t wb_state(const uint8_t *table, size_t table_bytes, double temperature, double density, uint64_t choice);
 
-/* The density check: has this density, at this temperature, the target pressure (Pa) to within the tolerance (Pa), and
- * does it push back?  Accepted: the ends are the pressure's.  Refusals: all but 7 and 10. */
+/* The density check: has this density, at this temperature (from 273 K on), the target pressure (Pa) to within the
+ * tolerance (Pa), and does it push back?  Accepted: the ends are the pressure's.  Refusals: all but 7 and 10. */
 uint64_t wb_density(const uint8_t *table, size_t table_bytes, double temperature, double density, double target,
                     double tolerance, uint64_t choice);
 
 /* The pair check: are these two densities a saturation pair at this temperature, to within a pressure tolerance (Pa)
  * and a Gibbs tolerance (J/kg), and do both phases push back?  Accepted: the ends are the vapour's pressure.
- * Refusals: all but 5. */
+ * Liquid and vapour balance stably only from the triple point on, so T starts at the fraction 27316/100: the double
+ * 273.16 is the first that is not refused with 3.  Refusals: all but 5. */
 uint64_t wb_pair(const uint8_t *table, size_t table_bytes, double temperature, double liquid, double vapour,
                  double pressure_tolerance, double gibbs_tolerance, uint64_t choice);
 
