@@ -1,5 +1,8 @@
 #!/usr/bin/env python3
-"""Makes data/terms.bin, the packed terms, from data/table5.txt.  Assumes nothing: a row of another form is refused."""
+"""Makes packed terms from tables of text: data/terms.bin from data/table5.txt, and data/odd.bin from data/odd.txt.
+
+Assumes nothing: a row of another form is refused.
+"""
 
 import os
 import re
@@ -21,11 +24,12 @@ def packed(row):
     return ((((c << 4 | d) << 5 | t) << 1 | sign) << 60 | magnitude).to_bytes(9, "big")
 
 
-def terms():
-    with open(os.path.join(HERE, "table5.txt"), newline="\n") as file:
+def terms(name="table5.txt"):
+    with open(os.path.join(HERE, name), newline="\n") as file:
         return b"".join(packed(row) for row in file)
 
 
 if __name__ == "__main__":
-    with open(os.path.join(HERE, "terms.bin"), "wb") as file:
-        file.write(terms())
+    for packed_name, name in (("terms.bin", "table5.txt"), ("odd.bin", "odd.txt")):
+        with open(os.path.join(HERE, packed_name), "wb") as file:
+            file.write(terms(name))

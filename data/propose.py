@@ -1,10 +1,14 @@
 #!/usr/bin/env python3
-"""Makes data/proposals.bin, a steriliser's proposals as the bench program reads them, and data/lines.txt, what it answers.
+"""Makes data/proposals.bin, a steriliser's proposals as the bench program reads them, and data/lines.txt, what it
+answers; and the same two for the odd table, data/odd_proposals.bin and data/odd_lines.txt.
 
 The temperatures are those of a steriliser's plugs, the densities the rough search's (tests/rough_search.py), rounded to
 eight digits so that every machine makes the same file.  The tolerances are a little above the brackets' widths in
 docs/TOLERANCES.md.  The last six are wrong on purpose.  Lines come from the second program, with data/terms.bin.
-`python3 data/propose.py` writes both files.  Assumes nothing.
+
+The odd table (data/odd.txt) is sound and describes no water: from about 69 to 491 kg/m3 its pressures lie below zero,
+and two densities there are in balance and push back when squeezed.  Those two are what 02 f is about.
+`python3 data/propose.py` writes the four files.  Assumes nothing.
 """
 
 import math
@@ -50,18 +54,33 @@ def plugs():
     yield found(-0.1) + ICE  # 273.05 K, below the triple point, where no such cell is: 3
 
 
-def proposals():
-    return b"".join(struct.pack(">5d", *plug) for plug in plugs())
+def odd_plugs():
+    """The same at 394.15 K with the odd table."""
+    T, wide = 394.15, (1e6, 1e6)
+    yield (T, 494.77736, 7.668745) + TOLERANCES  # in balance, and the vapour pushes: 0
+    yield (T, 476.11653, 267.05587) + TOLERANCES  # in balance with both pressures below zero: 21, and 0 before 02 f
+    yield (T, 476.11653, 267.05587, 0.0, 0.0)  # 21 is asked before the gaps: 9 before 02 f
+    yield (T, 476.11653, 7.668745) + wide  # a liquid below zero and a vapour above: 9
+    yield (T, 495.51006, 10.0) + TOLERANCES  # the pressures balance, the Gibbs energies do not: 10
+    yield (T, 492.63292, 64.0) + wide  # a vapour that pushes, but does not push back when squeezed: 11
 
 
-def answers():
+def packed(plugs):
+    return b"".join(struct.pack(">5d", *plug) for plug in plugs)
+
+
+def answers(table, plugs):
     """The second program's lines."""
-    with open(os.path.join(HERE, "terms.bin"), "rb") as file:
-        return "".join(line + "\n" for line in lines(file.read(), proposals()))
+    with open(os.path.join(HERE, table), "rb") as file:
+        return "".join(line + "\n" for line in lines(file.read(), packed(plugs)))
 
+
+FILES = (("proposals.bin", "lines.txt", "terms.bin", plugs),
+         ("odd_proposals.bin", "odd_lines.txt", "odd.bin", odd_plugs))
 
 if __name__ == "__main__":
-    with open(os.path.join(HERE, "proposals.bin"), "wb") as file:
-        file.write(proposals())
-    with open(os.path.join(HERE, "lines.txt"), "w", newline="\n") as file:
-        file.write(answers())
+    for proposals, answered, table, make in FILES:
+        with open(os.path.join(HERE, proposals), "wb") as file:
+            file.write(packed(make()))
+        with open(os.path.join(HERE, answered), "w", newline="\n") as file:
+            file.write(answers(table, make()))

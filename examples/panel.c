@@ -15,20 +15,19 @@
 
 enum { LONGEST_TABLE = 576, NUMBERS = 5, BYTES = 8 * NUMBERS };
 
-/* By the pair check's numbers. */
+/* By the pair check's refusals, which have no number but these. */
 static const char *const reasons[] = {
-    "accepted",
-    "the table of terms has a length that no table has",
-    "a term of the table breaks a rule",
-    "the temperature is not between 273.16 and 1273 K",
-    "a density is not between 1/1024 and 1288 kg/m3",
-    "the target pressure is not between 0 and 10^9 Pa",
-    "a tolerance is not between 0 and 10^6",
-    "the liquid is not above 322 kg/m3, or the vapour not below",
-    "a pressure is above 10^9 Pa",
-    "the two pressures are too far apart",
-    "the two Gibbs energies are too far apart",
-    "a phase does not push back when it is squeezed",
+    [WB_TABLE_LENGTH] = "the table of terms has a length that no table has",
+    [WB_BROKEN_TERM] = "a term of the table breaks a rule",
+    [WB_TEMPERATURE] = "the temperature is not between 273.16 and 1273 K",
+    [WB_DENSITY] = "a density is not between 1/1024 and 1288 kg/m3",
+    [WB_TOLERANCE] = "a tolerance is not between 0 and 10^6",
+    [WB_SIDES] = "the liquid is not above 322 kg/m3, or the vapour not below",
+    [WB_CEILING] = "a pressure is above 10^9 Pa",
+    [WB_VAPOUR_PRESSURE] = "the vapour does not push",
+    [WB_PRESSURE_GAP] = "the two pressures are too far apart",
+    [WB_GIBBS_GAP] = "the two Gibbs energies are too far apart",
+    [WB_STIFFNESS] = "a phase does not push back when it is squeezed",
 };
 
 struct plug {
@@ -52,6 +51,9 @@ static uint64_t ask(const uint8_t *table, size_t length, struct plug p, uint64_t
 static void say_ends(uint64_t number, double lower, double upper)
 {
     switch (number) {
+    case WB_VAPOUR_PRESSURE:
+        printf(": its pressure is between %.6g and %.6g Pa", lower, upper);
+        break;
     case WB_PRESSURE_GAP:
         printf(": the gap is between %.6g and %.6g Pa", lower, upper);
         break;

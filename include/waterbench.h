@@ -39,7 +39,8 @@ enum wb_number {
     WB_CEILING = 8,         /* a pressure's upper end is above 10^9 Pa */
     WB_PRESSURE_GAP = 9,    /* the pressures are too far apart; the ends are the gap's */
     WB_GIBBS_GAP = 10,      /* the Gibbs energies are too far apart; the ends are the gap's */
-    WB_STIFFNESS = 11       /* a phase does not push back when squeezed; the ends are its stiffness */
+    WB_STIFFNESS = 11,      /* a phase does not push back when squeezed; the ends are its stiffness */
+    WB_VAPOUR_PRESSURE = 21 /* the vapour's pressure has no lower end above 0; the ends are its pressure's */
 };
 
 #ifdef __cplusplus
@@ -52,14 +53,15 @@ extern "C" {
 uint64_t wb_state(const uint8_t *table, size_t table_bytes, double temperature, double density, uint64_t choice);
 
 /* The density check: has this density, at this temperature (from 273 K on), the target pressure (Pa) to within the
- * tolerance (Pa), and does it push back?  Accepted: the ends are the pressure's.  Refusals: all but 7 and 10. */
+ * tolerance (Pa), and does it push back?  Accepted: the ends are the pressure's.  Refusals: all but 7, 10 and 21. */
 uint64_t wb_density(const uint8_t *table, size_t table_bytes, double temperature, double density, double target,
                     double tolerance, uint64_t choice);
 
 /* The pair check: are these two densities a saturation pair at this temperature, to within a pressure tolerance (Pa)
- * and a Gibbs tolerance (J/kg), and do both phases push back?  Accepted: the ends are the vapour's pressure.
+ * and a Gibbs tolerance (J/kg), do both phases push back, and is the vapour's pressure above 0?  Accepted: the ends are
+ * the vapour's pressure.
  * Liquid and vapour balance stably only from the triple point on, so T starts at the fraction 27316/100: the double
- * 273.16 is the first that is not refused with 3.  Refusals: all but 5. */
+ * 273.16 is the first that is not refused with 3.  Refusals: all but 5, in the order 1 to 8, 21, 9 to 11. */
 uint64_t wb_pair(const uint8_t *table, size_t table_bytes, double temperature, double liquid, double vapour,
                  double pressure_tolerance, double gibbs_tolerance, uint64_t choice);
 

@@ -1,4 +1,4 @@
-"""State sheet, density check and pair check, with the table of numbers in order (01, "Inputs" and "Verdicts"; 02 b).
+"""State sheet, density check and pair check, with the table of numbers in order (01, "Inputs" and "Verdicts"; 02 b, f).
 
 Any bytes and any f64s (as their 64 bits) are answered; assumes nothing.
 """
@@ -65,7 +65,8 @@ def gap_passes(gap, tolerance):
     return at_most(negated(limit), exact(gap.lower)) and at_most(exact(gap.upper), limit)
 
 
-def stiff(bracket):
+def pushes(bracket):
+    """The lower end is above zero: asked of a stiffness, and of the vapour's pressure."""
     return bracket.lower[0] > 0
 
 
@@ -101,7 +102,7 @@ def density_check(table, T, rho, target, tolerance, bits=32):
     gap = pressure(state) - given(bits, *f64.exact(target))
     if not gap_passes(gap, tolerance):
         return with_ends(9, gap)
-    if not stiff(stiffness(state)):
+    if not pushes(stiffness(state)):
         return with_ends(11, stiffness(state))
     return with_ends(0, pressure(state))
 
@@ -123,13 +124,20 @@ def pair_check(table, T, liquid, vapour, pressure_tolerance, gibbs_tolerance, bi
     heavy, light = phase(bits, terms, T, liquid), phase(bits, terms, T, vapour)
     if too_high(pressure(heavy)) or too_high(pressure(light)):
         return refused(8)
+    if not pushes(pressure(light)):
+        return with_ends(21, pressure(light))
+    return balance(heavy, light, logarithm_of_ratio(bits, liquid, vapour), pressure_tolerance, gibbs_tolerance)
+
+
+def balance(heavy, light, ln_q, pressure_tolerance, gibbs_tolerance):
+    """What the pair check asks behind 21 of a liquid and a vapour, with the logarithm of their ratio: 9, 10 and 11."""
     gap = pressure(heavy) - pressure(light)
     if not gap_passes(gap, pressure_tolerance):
         return with_ends(9, gap)
-    gap = gibbs_gap(heavy, light, logarithm_of_ratio(bits, liquid, vapour))
+    gap = gibbs_gap(heavy, light, ln_q)
     if not gap_passes(gap, gibbs_tolerance):
         return with_ends(10, gap)
     for state in (heavy, light):
-        if not stiff(stiffness(state)):
+        if not pushes(stiffness(state)):
             return with_ends(11, stiffness(state))
     return with_ends(0, pressure(light))

@@ -8,17 +8,20 @@ named being 0:
 Line, 8 words: what the panel's call hands back for the choices 0 to 6 and for 2^64 - 1.
 """
 
+from collections import Counter
 from random import Random
 
+import odd_pairs
 from gen_pairs import liquid, near_322, vapour
 from second import f64
 from second.panel import chosen
+from second.term import Term, packed
 from second.tests import samples
 from second.tests.test_verdicts import CEILING_RHO, CEILING_T, CEILING_TABLE, EASY, NONE, OVER_TABLE
 from second.verdict import density_check, pair_check, state_sheet
 from stream import record, run_of
 
-EACH = 1000
+EACH, PULLED = 1000, 200
 CHOICES = list(range(7)) + [2 ** 64 - 1]
 FUNCTIONS = ((state_sheet, 2), (density_check, 4), (pair_check, 5))  # with the count of f64s
 W = f64.word
@@ -74,7 +77,8 @@ def aimed(random, table, fields):
 
 
 def fixed():
-    """01's line at the ceiling, the trap of a gap that is a subnormal, and 02 b's line at the triple point."""
+    """01's line at the ceiling, the trap of a gap that is a subnormal, 02 b's line at the triple point, and 02 f's
+    vapours at zero and below it."""
     for table in (CEILING_TABLE, OVER_TABLE):
         yield 0, table, [W(CEILING_T), W(CEILING_RHO)]
         yield 1, table, [W(CEILING_T), W(CEILING_RHO), W(1e9), W(1e6)]
@@ -85,6 +89,12 @@ def fixed():
         yield 0, EASY, [T, W(1.0)]
         yield 1, EASY, [T, W(1.0), 0, W(1e6)]
         yield 2, EASY, [T, W(323.0), W(321.0), W(1e6), W(1e6)]
+    for magnitude in (2 * 10 ** 16, 19999999995343388, 19999999995343387):
+        yield 2, packed(Term(0, 1, 0, 1, magnitude)), [W(300.0), W(323.0), W(161.0), W(1e6), W(1e6)]
+    for rho in (W(267.05587), W(476.11653)):
+        yield 0, samples.odd_table(), [W(394.15), rho]
+        yield 1, samples.odd_table(), [W(394.15), rho, 0, W(1e6)]
+    yield 2, samples.odd_table(), [W(394.15), W(476.11653), W(267.05587), W(1000.0), W(1.0)]
 
 
 def calls():
@@ -96,6 +106,10 @@ def calls():
             if function == 1:
                 fields = aimed(random, table, fields)
             yield function, table, spoiled(random, fields)
+    random = Random(111)
+    for _ in range(PULLED):
+        table = odd_pairs.table(random)
+        yield 2, table, odd_pairs.proposal(random, table)
 
 
 def records():
@@ -111,7 +125,8 @@ def answer(reader):
 
 
 def runs():
-    """Every number from 0 to 11 occurs; 12 is the program's only."""
+    """Every number from 0 to 11 occurs, 12 being the program's only, and 21 often."""
     run = run_of(records(), answer)
-    assert {int(line.split()[0], 16) for line in run.lines} == set(range(12))
+    numbers = Counter(int(line.split()[0], 16) for line in run.lines)
+    assert set(numbers) == set(range(12)) | {21} and numbers[21] >= 50, numbers
     yield run

@@ -1,6 +1,6 @@
 """Runs of the bench program with 2,000 and more proposals in all.  Assumes the seed below.
 
-Every number from 0 to 12 occurs but 5, which no pair check gives (gen_calls.py has it).
+Every number from 0 to 12 occurs but 5, which no pair check gives (gen_calls.py has it), and so does 21.
 
 A run is the file terms.bin (or none) and a standard input as 01 gives them: five f64 a proposal, most significant
 byte first: T, liquid, vapour, pressure tolerance, Gibbs tolerance.  The lines are the bench program's own.
@@ -9,8 +9,10 @@ the same ones.
 """
 
 import struct
+from collections import Counter
 from random import Random
 
+import odd_pairs
 import rough_search
 from gen_pairs import liquid, near_322, vapour
 from second import f64
@@ -26,7 +28,7 @@ from stream import Run
 
 W = f64.word
 WIDE = W(1e6)
-SATURATION, EDGES, TABLES, DAMAGED, ODD = 360, 80, 120, 50, 400
+SATURATION, EDGES, TABLES, DAMAGED, ODD, PULLED = 360, 80, 120, 50, 400, 80
 
 
 def along_the_line(count):
@@ -98,10 +100,30 @@ def run(table, proposals, tail=b""):
     return Run({} if table is None else {"terms.bin": table}, stdin, list(lines(table or b"", stdin)))
 
 
+def number_of(line):
+    return int(line.split()[1])
+
+
+def pulled(random):
+    """Random odd tables (02 f): 21 occurs, and 0, 9, 10 and 11 do, both answered and hidden behind 21."""
+    answered, hidden = Counter(), Counter()
+    for _ in range(PULLED):
+        table = odd_pairs.table(random)
+        proposals = [odd_pairs.proposal(random, table) for _ in range(5)]
+        one = run(table, proposals)
+        numbers = list(map(number_of, one.lines))
+        answered.update(numbers)
+        hidden.update(odd_pairs.behind(table, *p) for p, number in zip(proposals, numbers) if number == 21)
+        yield one
+    assert answered[21] >= 50 and all(min(answered[n], hidden[n]) >= 10 for n in (0, 9, 10, 11)), (answered, hidden)
+
+
 def all_runs():
     random = Random(109)
     water = samples.table5()
     yield run(water, [], samples.sterilisers())
+    yield run(samples.odd_table(), [], samples.data("odd_proposals.bin"))
+    yield from pulled(Random(110))
     yield run(water, saturation())
     yield run(water, cold())
     yield run(water, edges(random))
@@ -128,6 +150,6 @@ def runs():
     count, numbers = 0, set()
     for one in all_runs():
         count += len(one.lines)
-        numbers.update(int(line.split()[1]) for line in one.lines)
+        numbers.update(map(number_of, one.lines))
         yield one
-    assert count >= 2000 and numbers == set(range(13)) - {5}, (count, numbers)
+    assert count >= 2000 and numbers == set(range(13)) - {5} | {21}, (count, numbers)

@@ -23,6 +23,11 @@ def table5():
     return data("terms.bin")
 
 
+def odd_table():
+    """A sound table with pressures below zero at densities that are in balance (data/propose.py)."""
+    return data("odd.bin")
+
+
 def sterilisers():
     """A steriliser's proposals, as the bench program reads them."""
     return data("proposals.bin")

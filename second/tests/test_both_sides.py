@@ -1,5 +1,5 @@
-"""The rows of 01's "Both sides of the line", and those of 02 b, through the three public functions, as the program
-both_sides writes them.
+"""The rows of 01's "Both sides of the line", and those of 02 b and f, through the three public functions, as the
+program both_sides writes them.
 
     python3 -m second.tests.test_both_sides >crates/both_sides/stdout
 
@@ -18,6 +18,8 @@ number, the place, and the ends' bits.  The order of the rows, a group each:
     sides of 322            pair check
     least gaps              density check
     stiffness about zero    density check
+    vapour about zero       pair check
+    the odd table           state sheet at both densities, pair check
 
 Each row also says which numbers the documents allow it, so that the second program can't be wrong alone.  Assumes
 nothing.
@@ -26,7 +28,7 @@ nothing.
 import os
 
 from second import f64
-from second.tests.samples import INFINITY, NAN, NEGATIVE, ROOT, above, under
+from second.tests.samples import INFINITY, NAN, NEGATIVE, ROOT, above, odd_table, under
 from second.term import Term, packed
 from second.verdict import density_check, pair_check, state_sheet
 
@@ -188,7 +190,30 @@ def stiffnesses():
         yield line("density check", label, density_check(table, T, W(322.0), W(22e6), WIDE), (number,))
 
 
-GROUPS = (temperatures, densities, tables, terms, ceilings, empty, targets, tolerances, sides, least_gaps, stiffnesses)
+def vapours():
+    """About a coefficient of -2, with the vapour at half the critical density: 02 f.  As for stiffness."""
+    for label, magnitude, number in (
+            ("vapour's pressure 0", 2 * 10 ** 16, 21),
+            ("vapour's pressure down to 0", 19999999995343388, 21),
+            ("vapour's pressure above 0", 19999999995343387, 9)):
+        table = packed(Term(0, 1, 0, 1, magnitude))
+        yield line("pair check", label, pair_check(table, T, LIQUID, W(161.0), WIDE, WIDE), (number,))
+
+
+def odd():
+    """Two densities that the pair check accepted before 02 f, with both pressures below zero; and two that push."""
+    table, t = odd_table(), W(394.15)
+    for label, liquid, vapour, number in (
+            ("below zero", W(476.11653), W(267.05587), 21),
+            ("above zero", W(494.77736), W(7.668745), 0)):
+        label = "odd table, " + label
+        yield line("state sheet's liquid", label, state_sheet(table, t, liquid), (0,))
+        yield line("state sheet's vapour", label, state_sheet(table, t, vapour), (0,))
+        yield line("pair check", label, pair_check(table, t, liquid, vapour, W(1000.0), W(1.0)), (number,))
+
+
+GROUPS = (temperatures, densities, tables, terms, ceilings, empty, targets, tolerances, sides, least_gaps, stiffnesses,
+          vapours, odd)
 
 
 def text():

@@ -1,15 +1,20 @@
-"""data/proposals.bin and data/lines.txt are what data/propose.py makes, and answer what the lab is told they answer."""
+"""The proposals and lines in data/ are what data/propose.py makes, and answer what the lab is told they answer."""
 
 import propose
-from second.tests.samples import data, sterilisers
+from second.tests.samples import data
 
 
 def test_files():
-    assert sterilisers() == propose.proposals()
-    assert data("lines.txt").decode() == propose.answers()
+    for proposals, answered, table, make in propose.FILES:
+        assert data(proposals) == propose.packed(make())
+        assert data(answered).decode() == propose.answers(table, make())
+
+
+def numbers(answered):
+    return [int(line.split()[1]) for line in data(answered).decode().split("\n")[:-1]]
 
 
 def test_numbers():
     """The plugs are accepted; each of the wrong ones is refused for what is wrong with it."""
-    numbers = [int(line.split()[1]) for line in data("lines.txt").decode().split("\n")[:-1]]
-    assert numbers == [0] * (2 + len(propose.CELSIUS)) + [9, 10, 9, 7, 3, 3]
+    assert numbers("lines.txt") == [0] * (2 + len(propose.CELSIUS)) + [9, 10, 9, 7, 3, 3]
+    assert numbers("odd_lines.txt") == [0, 21, 21, 9, 10, 11]

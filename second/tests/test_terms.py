@@ -54,6 +54,7 @@ def test_first_broken_place():
 
 def test_terms_bin_is_what_the_script_makes():
     assert pack.terms() == samples.table5()
+    assert pack.terms("odd.txt") == samples.odd_table()
     assert len(samples.table5()) == 38 * 9 and samples.table5()[-9:] == ROW_38 and first_broken(samples.table5()) == 0
 
 

@@ -1,4 +1,5 @@
-"""The answers: 01's example output, every row of its "Both sides of the line", traps, and the panel's choices."""
+"""The answers: 01's example output, every row of its "Both sides of the line", 02 b and f, traps, and the panel's
+choices."""
 
 import struct
 from fractions import Fraction
@@ -7,11 +8,12 @@ from second import f64
 from second.bench import line, lines
 from second.equation import gibbs_gap_of, phase, pressure
 from second.exact import fraction
+from second.logarithm import logarithm_of_ratio
 from second.panel import chosen
 from second.sheet import exact
 from second.term import Term, packed, terms_of
-from second.tests.samples import INFINITY, NAN, NEGATIVE, above, table5, under
-from second.verdict import Answer, density_check, pair_check, state_sheet
+from second.tests.samples import INFINITY, NAN, NEGATIVE, above, odd_table, table5, under
+from second.verdict import Answer, balance, density_check, pair_check, state_sheet
 
 W = f64.word
 ROW_38 = bytes.fromhex("D5F0006E9B73B18500")
@@ -139,7 +141,7 @@ def test_sides_line():
 
 def test_order_of_the_numbers():
     """Everything is bad at first; mended one by one, the numbers come in order."""
-    broken = packed(Term(0, 0, 0, 0, 1))
+    broken, pulled = packed(Term(0, 0, 0, 0, 1)), packed(Term(0, 1, 0, 1, 2 * 10 ** 16))
     bad = dict(table=b"", T=NAN, rho=NAN, target=NAN, tolerance=NAN)
     for mend, number in ((dict(), 1), (dict(table=broken), 2), (dict(table=OVER_TABLE), 3), (dict(T=W(1250.0)), 4),
                          (dict(rho=W(1288.0)), 5), (dict(target=W(0.0)), 6), (dict(tolerance=0), 8),
@@ -149,7 +151,8 @@ def test_order_of_the_numbers():
     bad = dict(table=b"", T=NAN, liquid=NAN, vapour=NAN, pressure_tolerance=NAN, gibbs_tolerance=NAN)
     for mend, number in ((dict(), 1), (dict(table=broken), 2), (dict(table=OVER_TABLE), 3), (dict(T=W(1250.0)), 4),
                          (dict(liquid=W(1288.0)), 4), (dict(vapour=W(322.0)), 6), (dict(pressure_tolerance=0), 6),
-                         (dict(gibbs_tolerance=0), 7), (dict(vapour=W(321.0)), 8), (dict(table=EASY), 9)):
+                         (dict(gibbs_tolerance=0), 7), (dict(vapour=W(321.0)), 8), (dict(table=pulled), 21),
+                         (dict(table=EASY), 9), (dict(pressure_tolerance=WIDE), 9), (dict(liquid=W(322.125)), 10)):
         bad.update(mend)
         assert pair_check(**bad).number == number
 
@@ -199,6 +202,35 @@ def test_gibbs_gap_is_asked_after_pressure():
     assert pair_check(table5(), *proposal, 0, 0).number == 9
     assert pair_check(table5(), *proposal, WIDE, 0) == Answer(10, 0, (f64.of_sheet(gap.lower), f64.of_sheet(gap.upper)))
     assert pair_check(table5(), *proposal, WIDE, WIDE).ends == state_sheet(table5(), W(640.0), W(177.0)).ends[:2]
+
+
+def test_vapour_pressure_line():
+    """02 f: one term with d 1 and t 0 at density 161; with the coefficient -2 there is no pressure at all there."""
+    for magnitude, number in ((2 * 10 ** 16, 21), (19999999995343388, 21), (19999999995343387, 9)):
+        table = packed(Term(0, 1, 0, 1, magnitude))
+        lower, upper = state_sheet(table, W(300.0), W(161.0)).ends[:2]
+        assert (lower == 0) == (number == 21) and (upper == 0) == (magnitude == 2 * 10 ** 16)
+        answer = pair_check(table, W(300.0), W(323.0), W(161.0), WIDE, WIDE)
+        assert answer.number == number and (number == 9 or answer.ends == (lower, upper))
+
+
+def test_vapour_pressure_below_zero():
+    """02 f: with the odd table two densities balance below zero.  All that is asked behind 21 passes."""
+    T, liquid, vapour, p, g = W(394.15), W(476.11653), W(267.05587), W(1000.0), W(1.0)
+    terms = terms_of(odd_table())
+    heavy, light = (phase(32, terms, f64.exact(T), f64.exact(rho)) for rho in (liquid, vapour))
+    ln_q = logarithm_of_ratio(32, f64.exact(liquid), f64.exact(vapour))
+    assert balance(heavy, light, ln_q, p, g).number == 0
+    assert pressure(heavy).upper[0] < 0 and pressure(light).upper[0] < 0
+    below = state_sheet(odd_table(), T, vapour).ends[:2]
+    assert pair_check(odd_table(), T, liquid, vapour, p, g) == Answer(21, 0, below)
+    # 21 stands before 9, and behind 8
+    assert balance(heavy, light, ln_q, 0, 0).number == 9
+    assert pair_check(odd_table(), T, liquid, vapour, 0, 0) == Answer(21, 0, below)
+    assert pair_check(odd_table(), T, W(1288.0), vapour, p, g) == Answer(8, 0, (0, 0))
+    # the density check and the state sheet take a pressure below zero as they did
+    assert state_sheet(odd_table(), T, vapour).number == 0
+    assert density_check(odd_table(), T, vapour, 0, WIDE).number == 9
 
 
 def test_line():

@@ -11,6 +11,7 @@ pub fn number(answer: Answer) -> u64
     match answer {
         Answer::Accepted(_) => 0,
         Answer::Refused(why) => refusal::number(why),
+        Answer::VapourPressure(_) => 21,
         Answer::PressureGap(_) => 9,
         Answer::GibbsGap(_) => 10,
         Answer::Stiffness(_) => 11,
@@ -23,6 +24,7 @@ pub fn place(answer: Answer) -> u64
     match answer {
         Answer::Accepted(_) => 0,
         Answer::Refused(why) => refusal::place(why),
+        Answer::VapourPressure(_) => 0,
         Answer::PressureGap(_) => 0,
         Answer::GibbsGap(_) => 0,
         Answer::Stiffness(_) => 0,
@@ -35,6 +37,7 @@ pub fn ends(answer: Answer) -> Ends
     match answer {
         Answer::Accepted(ends) => ends,
         Answer::Refused(_) => refusal::no_ends(),
+        Answer::VapourPressure(ends) => ends,
         Answer::PressureGap(ends) => ends,
         Answer::GibbsGap(ends) => ends,
         Answer::Stiffness(ends) => ends,

@@ -6,29 +6,36 @@ use mathlib.Core.Bool.{true, false}
 use mathlib.Core.List.{List}
 use mathlib.Core.Logic.{_↔_, Iff·trans, _⊎_, ⊎-elim}
 use native.Mathlib.Omega.{arith}
-use lib.ListN.{length}
-use lib.Dec.{eqb}
+use lib.ListN.{length, take}
+use lib.Dec.{eqb, lit≤}
 use lib.Ieee.{Float}
-use Rattle.exact.specs.Fraction.{Fraction, nat, parts}
+use Rattle.exact.specs.Fraction.{Fraction, nat, parts, _≼_, _≺_}
+use Rattle.sheet.specs.Number.{value}
+use Rattle.doubles.specs.Double.{exactOf}
 use Rattle.doubles.specs.Range.{within, Outside}
 use Rattle.doubles.proofs.Within.{outside}
 use Rattle.term.specs.Sound.{soundLength, soundTable, firstBroken}
+use Rattle.equation.specs.Rules.{pressure}
 use Rattle.verdict.specs.declared.Refusal.{Refusal}
 use Rattle.verdict.specs.declared.Refusal.the-variants.{TableLength, BrokenTerm, Temperature, Density, Target, Tolerance, Sides, Ceiling}
 use Rattle.verdict.specs.declared.SheetAnswer.{SheetAnswer}
 use Rattle.verdict.specs.declared.SheetAnswer.the-variants as sheet
 use Rattle.verdict.specs.declared.Answer.{Answer}
-use Rattle.verdict.specs.declared.Answer.the-variants.{Accepted, Refused, PressureGap, GibbsGap, Stiffness}
+use Rattle.verdict.specs.declared.Answer.the-variants.{Accepted, Refused, VapourPressure, PressureGap, GibbsGap, Stiffness}
 use Rattle.verdict.specs.Reading.{number, place, handed, zeros, sheetNumber, sheetPlace, sheetPressure, sheetStiffness, refusalPlace, refusalNumber}
 use Rattle.verdict.specs.Steps.{FailsAt, AllPass}
 use Rattle.verdict.specs.Rules.{stateSteps, stateAnswer, densitySteps, densityAnswer, pairSteps, pairAnswer}
-use Rattle.verdict.proofs.Order.{exactly, either, accepted, fails-at, on-pass, on-fail}
+use Rattle.verdict.specs.Balance.{SoundPair}
+use Rattle.verdict.proofs.Order.{exactly, either, accepted, fails-at, on-pass, on-fail, passed-before, fails-behind, all-behind}
 use Rattle.verdict.proofs.Tables.{table-parts, sound}
+use Rattle.verdict.proofs.Tests.{pushes, pushes-not}
+use Rattle.verdict.proofs.SoundPairs.{sound-pair}
 
 -- ---- zeros: the numbers 1 to 8 hand out nothing, and only 2 has a place
 pub refused-zeros : (a : Answer) → 0 < number a → number a < 9 → handed a ≡ zeros
 refused-zeros (Accepted ends) h k = absurd (omega arith)
 refused-zeros (Refused why) h k = refl
+refused-zeros (VapourPressure ends) h k = absurd (omega arith)
 refused-zeros (PressureGap ends) h k = absurd (omega arith)
 refused-zeros (GibbsGap ends) h k = absurd (omega arith)
 refused-zeros (Stiffness ends) h k = absurd (omega arith)
@@ -46,6 +53,7 @@ refusal-place Ceiling h = refl
 pub no-place : (a : Answer) → (number a ≡ 2 → ⊥) → place a ≡ 0
 no-place (Accepted ends) h = refl
 no-place (Refused why) h = refusal-place why h
+no-place (VapourPressure ends) h = refl
 no-place (PressureGap ends) h = refl
 no-place (GibbsGap ends) h = refl
 no-place (Stiffness ends) h = refl
@@ -214,15 +222,31 @@ module _ (w : ℕ) (table : List ℕ) (t liquid vapour pressureTolerance gibbsTo
   unfolding pairAnswer
   pair-8 = exactly number 8 6 (pairSteps w table t liquid vapour pressureTolerance gibbsTolerance) _ tt
 
-  -- the pressure gap does not pass
-  pub pair-9 : number (pairAnswer w table t liquid vapour pressureTolerance gibbsTolerance) ≡ 9 ↔ FailsAt 7 (pairSteps w table t liquid vapour pressureTolerance gibbsTolerance)
+  -- the vapour's pressure does not pass
+  pub pair-21 : number (pairAnswer w table t liquid vapour pressureTolerance gibbsTolerance) ≡ 21 ↔ FailsAt 7 (pairSteps w table t liquid vapour pressureTolerance gibbsTolerance)
   unfolding pairAnswer
-  pair-9 = exactly number 9 7 (pairSteps w table t liquid vapour pressureTolerance gibbsTolerance) _ tt
+  pair-21 = exactly number 21 7 (pairSteps w table t liquid vapour pressureTolerance gibbsTolerance) _ tt
+
+  -- in full: a pair that none of 1 to 8 applies to, and a lower end of the vapour's pressure that is not above zero (document 02, f)
+  pub pair-vapour-pressure : number (pairAnswer w table t liquid vapour pressureTolerance gibbsTolerance) ≡ 21
+      ↔ (SoundPair w table t liquid vapour pressureTolerance gibbsTolerance × (value (pressure w table (exactOf t) (exactOf vapour) .lo) ≼ nat 0))
+  pair-vapour-pressure =
+      let seven = sound-pair w table t liquid vapour pressureTolerance gibbsTolerance in
+      let eighth = fails-behind 7 (pairSteps w table t liquid vapour pressureTolerance gibbsTolerance) in
+      let low = pushes-not (pressure w table (exactOf t) (exactOf vapour)) in (
+        λ e. let f = eighth .0 (pair-21 .0 e) in (seven .0 (f .0), low .0 (f .1)),
+        λ s. pair-21 .1 (eighth .1 (seven .1 (s .0), low .1 (s .1))),
+      )
+
+  -- the pressure gap does not pass
+  pub pair-9 : number (pairAnswer w table t liquid vapour pressureTolerance gibbsTolerance) ≡ 9 ↔ FailsAt 8 (pairSteps w table t liquid vapour pressureTolerance gibbsTolerance)
+  unfolding pairAnswer
+  pair-9 = exactly number 9 8 (pairSteps w table t liquid vapour pressureTolerance gibbsTolerance) _ tt
 
   -- the Gibbs gap does not pass
-  pub pair-10 : number (pairAnswer w table t liquid vapour pressureTolerance gibbsTolerance) ≡ 10 ↔ FailsAt 8 (pairSteps w table t liquid vapour pressureTolerance gibbsTolerance)
+  pub pair-10 : number (pairAnswer w table t liquid vapour pressureTolerance gibbsTolerance) ≡ 10 ↔ FailsAt 9 (pairSteps w table t liquid vapour pressureTolerance gibbsTolerance)
   unfolding pairAnswer
-  pair-10 = exactly number 10 8 (pairSteps w table t liquid vapour pressureTolerance gibbsTolerance) _ tt
+  pair-10 = exactly number 10 9 (pairSteps w table t liquid vapour pressureTolerance gibbsTolerance) _ tt
 
   -- the place is that of the first broken term
   pub pair-place : number (pairAnswer w table t liquid vapour pressureTolerance gibbsTolerance) ≡ 2 → place (pairAnswer w table t liquid vapour pressureTolerance gibbsTolerance) ≡ firstBroken table
@@ -238,11 +262,25 @@ module _ (w : ℕ) (table : List ℕ) (t liquid vapour pressureTolerance gibbsTo
 
   -- a stiffness does not pass, the liquid's or, where that passes, the vapour's
   pub pair-11 : number (pairAnswer w table t liquid vapour pressureTolerance gibbsTolerance) ≡ 11
-      ↔ (FailsAt 9 (pairSteps w table t liquid vapour pressureTolerance gibbsTolerance) ⊎ FailsAt 10 (pairSteps w table t liquid vapour pressureTolerance gibbsTolerance))
+      ↔ (FailsAt 10 (pairSteps w table t liquid vapour pressureTolerance gibbsTolerance) ⊎ FailsAt 11 (pairSteps w table t liquid vapour pressureTolerance gibbsTolerance))
   unfolding pairAnswer
   pair-11 = (
-    either number 11 9 (pairSteps w table t liquid vapour pressureTolerance gibbsTolerance) _ tt,
+    either number 11 10 (pairSteps w table t liquid vapour pressureTolerance gibbsTolerance) _ tt,
     ⊎-elim
-        (λ f. ap number (fails-at 9 (pairSteps w table t liquid vapour pressureTolerance gibbsTolerance) _ f))
-        (λ f. ap number (fails-at 10 (pairSteps w table t liquid vapour pressureTolerance gibbsTolerance) _ f)),
+        (λ f. ap number (fails-at 10 (pairSteps w table t liquid vapour pressureTolerance gibbsTolerance) _ f))
+        (λ f. ap number (fails-at 11 (pairSteps w table t liquid vapour pressureTolerance gibbsTolerance) _ f)),
   )
+
+  eight-pass : AllPass (take 8 (pairSteps w table t liquid vapour pressureTolerance gibbsTolerance)) → nat 0 ≺ value (pressure w table (exactOf t) (exactOf vapour) .lo)
+  eight-pass p = pushes _ .0 (p .1 .1 .1 .1 .1 .1 .1 .0)
+
+  -- the numbers behind 21: with 9, 10, 11 and 0 it did not apply
+  pub pair-behind-21 : {n : ℕ} → number (pairAnswer w table t liquid vapour pressureTolerance gibbsTolerance) ≡ n
+      → ((n ≡ 9) ⊎ (n ≡ 10)) ⊎ ((n ≡ 11) ⊎ (n ≡ 0)) → nat 0 ≺ value (pressure w table (exactOf t) (exactOf vapour) .lo)
+  pair-behind-21 e =
+      let steps = pairSteps w table t liquid vapour pressureTolerance gibbsTolerance in
+      ⊎-elim
+      (⊎-elim (λ p. eight-pass (passed-before 8 8 steps (lit≤ tt) (pair-9 .0 (e ∙ p)))) (λ p. eight-pass (passed-before 8 9 steps (lit≤ tt) (pair-10 .0 (e ∙ p)))))
+      (⊎-elim
+      (λ p. eight-pass (⊎-elim (passed-before 8 10 steps (lit≤ tt)) (passed-before 8 11 steps (lit≤ tt)) (pair-11 .0 (e ∙ p))))
+      (λ p. eight-pass (all-behind 8 steps .0 (pair-0 .0 (e ∙ p)) .0)))

@@ -26,7 +26,7 @@ use Rattle.verdict.proofs.Tables.{sound}
 use Rattle.verdict.proofs.Tests.{both, holds, temperature-in, above-triple-point, density-in, sides}
 use Rattle.verdict.proofs.HandedOut.{handed-covers}
 use Rattle.verdict.proofs.Ready.{pressure-handy, stiffness-handy, targetGap-handy, pressureGap-handy, gibbsGap-handy}
-use Rattle.verdict.proofs.Demand1.{density-9, density-11, pair-9, pair-10}
+use Rattle.verdict.proofs.Demand1.{density-9, density-11, pair-9, pair-10, pair-21, pair-vapour-pressure}
 
 -- what lies in a bracket is covered by the ends that are handed out for it
 between : (e : Ends) (b : Bracket) → Handy b → e ≡ handedOut b → {x : Fraction} → x ∈ ends b → Covers e b x
@@ -138,6 +138,26 @@ module _ (table : List ℕ) (t liquid vapour pressureTolerance gibbsTolerance : 
         between _ _ (pressure-handy table (sound table (steps .0) (steps .1 .0)) t hot vapour thin) pair-ends
         (covers-pressure 31 N (lit≤ tt) high table (temperature-in t hot) (density-in vapour thin))
 
+  -- 21: the vapour's pressure (document 02, f)
+  module _ (twentyone : number (pairAnswer 32 table t liquid vapour pressureTolerance gibbsTolerance) ≡ 21) where
+    pub pair-vapour-ends :
+        handed (pairAnswer 32 table t liquid vapour pressureTolerance gibbsTolerance) ≡ handedOut (pressure 32 table (exactOf t) (exactOf vapour))
+    unfolding pairAnswer
+    pair-vapour-ends =
+        ap handed
+        (fails-at 7 (pairSteps 32 table t liquid vapour pressureTolerance gibbsTolerance) _
+        (pair-21 32 table t liquid vapour pressureTolerance gibbsTolerance .0 twentyone))
+
+    pub pair-vapour-covers : (N : ℕ) → 256 ≤ N
+        → Covers (handed (pairAnswer 32 table t liquid vapour pressureTolerance gibbsTolerance)) (pressure 32 table (exactOf t) (exactOf vapour))
+        (pressureAt N table (exactOf t) (exactOf vapour))
+    pair-vapour-covers N high =
+        let pair = pair-vapour-pressure 32 table t liquid vapour pressureTolerance gibbsTolerance .0 twentyone .0 in
+        let hot = above-triple-point t (pair .temperature) in
+        let thin = holds (pair .vapour-density) in
+        between _ _ (pressure-handy table (pair .table-sound) t hot vapour thin) pair-vapour-ends
+        (covers-pressure 31 N (lit≤ tt) high table (temperature-in t hot) (density-in vapour thin))
+
   -- 9: the pressure of the liquid less that of the vapour
   module _ (nine : number (pairAnswer 32 table t liquid vapour pressureTolerance gibbsTolerance) ≡ 9) where
     pub pair-gap-ends :
@@ -146,7 +166,7 @@ module _ (table : List ℕ) (t liquid vapour pressureTolerance gibbsTolerance : 
     unfolding pairAnswer
     pair-gap-ends =
         ap handed
-        (fails-at 7 (pairSteps 32 table t liquid vapour pressureTolerance gibbsTolerance) _
+        (fails-at 8 (pairSteps 32 table t liquid vapour pressureTolerance gibbsTolerance) _
         (pair-9 32 table t liquid vapour pressureTolerance gibbsTolerance .0 nine))
 
     pub pair-gap-covers : (N : ℕ) → 256 ≤ N
@@ -169,7 +189,7 @@ module _ (table : List ℕ) (t liquid vapour pressureTolerance gibbsTolerance : 
     unfolding pairAnswer
     pair-gibbs-ends =
         ap handed
-        (fails-at 8 (pairSteps 32 table t liquid vapour pressureTolerance gibbsTolerance) _
+        (fails-at 9 (pairSteps 32 table t liquid vapour pressureTolerance gibbsTolerance) _
         (pair-10 32 table t liquid vapour pressureTolerance gibbsTolerance .0 ten))
 
     pub pair-gibbs-covers : (N : ℕ) → 256 ≤ N
@@ -187,17 +207,17 @@ module _ (table : List ℕ) (t liquid vapour pressureTolerance gibbsTolerance : 
         (covers-gibbsGap 31 N (lit≤ tt) high table (temperature-in t hot) (density-in liquid dense) (density-in vapour thin) above)
 
   -- 11: the stiffness that fails, the liquid's where it does, else the vapour's (`pair-11` of `proofs/Demand1.antt` says which)
-  pub liquid-stiffness-ends : FailsAt 9 (pairSteps 32 table t liquid vapour pressureTolerance gibbsTolerance)
+  pub liquid-stiffness-ends : FailsAt 10 (pairSteps 32 table t liquid vapour pressureTolerance gibbsTolerance)
       → handed (pairAnswer 32 table t liquid vapour pressureTolerance gibbsTolerance) ≡ handedOut (stiffness 32 table (exactOf t) (exactOf liquid))
   unfolding pairAnswer
-  liquid-stiffness-ends f = ap handed (fails-at 9 (pairSteps 32 table t liquid vapour pressureTolerance gibbsTolerance) _ f)
+  liquid-stiffness-ends f = ap handed (fails-at 10 (pairSteps 32 table t liquid vapour pressureTolerance gibbsTolerance) _ f)
 
-  pub vapour-stiffness-ends : FailsAt 10 (pairSteps 32 table t liquid vapour pressureTolerance gibbsTolerance)
+  pub vapour-stiffness-ends : FailsAt 11 (pairSteps 32 table t liquid vapour pressureTolerance gibbsTolerance)
       → handed (pairAnswer 32 table t liquid vapour pressureTolerance gibbsTolerance) ≡ handedOut (stiffness 32 table (exactOf t) (exactOf vapour))
   unfolding pairAnswer
-  vapour-stiffness-ends f = ap handed (fails-at 10 (pairSteps 32 table t liquid vapour pressureTolerance gibbsTolerance) _ f)
+  vapour-stiffness-ends f = ap handed (fails-at 11 (pairSteps 32 table t liquid vapour pressureTolerance gibbsTolerance) _ f)
 
-  pub liquid-stiffness-covers : FailsAt 9 (pairSteps 32 table t liquid vapour pressureTolerance gibbsTolerance) → (N : ℕ) → 256 ≤ N
+  pub liquid-stiffness-covers : FailsAt 10 (pairSteps 32 table t liquid vapour pressureTolerance gibbsTolerance) → (N : ℕ) → 256 ≤ N
       → Covers (handed (pairAnswer 32 table t liquid vapour pressureTolerance gibbsTolerance)) (stiffness 32 table (exactOf t) (exactOf liquid))
       (stiffnessAt N table (exactOf t) (exactOf liquid))
   liquid-stiffness-covers steps N high =
@@ -206,7 +226,7 @@ module _ (table : List ℕ) (t liquid vapour pressureTolerance gibbsTolerance : 
       between _ _ (stiffness-handy table (sound table (steps .0) (steps .1 .0)) t hot liquid dense) (liquid-stiffness-ends steps)
       (covers-stiffness 31 N (lit≤ tt) high table (temperature-in t hot) (density-in liquid dense))
 
-  pub vapour-stiffness-covers : FailsAt 10 (pairSteps 32 table t liquid vapour pressureTolerance gibbsTolerance) → (N : ℕ) → 256 ≤ N
+  pub vapour-stiffness-covers : FailsAt 11 (pairSteps 32 table t liquid vapour pressureTolerance gibbsTolerance) → (N : ℕ) → 256 ≤ N
       → Covers (handed (pairAnswer 32 table t liquid vapour pressureTolerance gibbsTolerance)) (stiffness 32 table (exactOf t) (exactOf vapour))
       (stiffnessAt N table (exactOf t) (exactOf vapour))
   vapour-stiffness-covers steps N high =

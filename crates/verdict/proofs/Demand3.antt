@@ -2,26 +2,18 @@
 -- level, by more than the width of its brackets, is accepted, whoever proposed it. Both over the count of bits suc v, from 8. Assumes nothing.
 use Prim.Native.Nat.{ℕ, suc, _≤_}
 use mathlib.Core.Path.{_≡_, refl}
-use mathlib.Core.Bool.{true}
 use mathlib.Core.List.{List}
 use lib.Ieee.{Float}
-use Rattle.exact.specs.Fraction.{nat, _≼_}
-use Rattle.exact.specs.Fraction.Order.{≼-leq, ≺→≼, ≺-trans}
-use Rattle.sheet.specs.Number.{value}
+use Rattle.exact.specs.Fraction.Order.{≺→≼, ≺-trans}
 use Rattle.doubles.specs.Double.{exactOf}
-use Rattle.doubles.specs.Range.{acceptedDensity}
-use Rattle.bracket.specs.declared.Bracket.{Bracket}
-use Rattle.equation.proofs.Covers.{covers-stiffness, covers-gibbsGap, covers-targetGap, covers-pressureGap}
+use Rattle.equation.proofs.Covers.{covers-pressure, covers-stiffness, covers-gibbsGap, covers-targetGap, covers-pressureGap}
 use Rattle.verdict.specs.Reading.{number}
-use Rattle.verdict.specs.Rules.{pairSteps, pairAnswer, densitySteps, densityAnswer, underCeiling}
+use Rattle.verdict.specs.Rules.{pairSteps, pairAnswer, densitySteps, densityAnswer}
 use Rattle.verdict.specs.Balance.{Balanced, BalancedBeyond, SoundPair, OnTarget, OnTargetBeyond, SoundDensity}
-use Rattle.verdict.proofs.Order.{accepted}
+use Rattle.verdict.proofs.Order.{accepted, all-behind}
 use Rattle.verdict.proofs.Tables.{table-parts}
-use Rattle.verdict.proofs.Tests.{both, together, holds, temperature-in, above-triple-point, density-in, sides, on-sides, gap-within, gap-beyond, pushes-above, pushes-beyond}
-
-under : (b : Bracket) → value (b .hi) ≼ nat 1000000000 → underCeiling b ≡ true
-unfolding underCeiling
-under b h = ≼-leq h
+use Rattle.verdict.proofs.Tests.{holds, temperature-in, above-triple-point, density-in, under-ceiling, gap-within, gap-beyond, pushes-above, pushes-beyond}
+use Rattle.verdict.proofs.SoundPairs.{sound-pair}
 
 -- ---- the pair
 module _ (v : ℕ) (wide : 7 ≤ v) (table : List ℕ) (t liquid vapour pressureTolerance gibbsTolerance : Float) where
@@ -30,18 +22,21 @@ module _ (v : ℕ) (wide : 7 ≤ v) (table : List ℕ) (t liquid vapour pressure
       → Balanced N table (exactOf t) (exactOf liquid) (exactOf vapour) (exactOf pressureTolerance) (exactOf gibbsTolerance)
   unfolding pairAnswer
   accepted-pair e N high =
-      let steps = accepted number 0 (pairSteps (suc v) table t liquid vapour pressureTolerance gibbsTolerance) _ tt refl .0 e in
-      let T = temperature-in t (above-triple-point t (steps .1 .1 .0)) in
-      let densities = both (acceptedDensity liquid) (acceptedDensity vapour) (steps .1 .1 .1 .0) in
-      let l = density-in liquid (holds (densities .0)) in
-      let g = density-in vapour (holds (densities .1)) in
-      let apart = sides liquid vapour (steps .1 .1 .1 .1 .1 .0) in
-      let gaps = steps .1 .1 .1 .1 .1 .1 .1 in
+      let steps = pairSteps (suc v) table t liquid vapour pressureTolerance gibbsTolerance in
+      let parts = all-behind 7 steps .0 (accepted number 0 steps _ tt refl .0 e) in
+      let pair = sound-pair (suc v) table t liquid vapour pressureTolerance gibbsTolerance .0 (parts .0) in
+      let T = temperature-in t (above-triple-point t (pair .temperature)) in
+      let l = density-in liquid (holds (pair .liquid-density)) in
+      let g = density-in vapour (holds (pair .vapour-density)) in
+      let apart = ≺→≼ (≺-trans (pair .vapour-side) (pair .liquid-side)) in
+      let push = parts .1 in
+      let gaps = push .1 in
       record {
         pressures = gap-within _ pressureTolerance (covers-pressureGap v N wide high table T l g) (gaps .0);
-        gibbs = gap-within _ gibbsTolerance (covers-gibbsGap v N wide high table T l g (≺→≼ (≺-trans (apart .1) (apart .0)))) (gaps .1 .0);
+        gibbs = gap-within _ gibbsTolerance (covers-gibbsGap v N wide high table T l g apart) (gaps .1 .0);
         liquid-pushes = pushes-above _ (covers-stiffness v N wide high table T l) (gaps .1 .1 .0);
         vapour-pushes = pushes-above _ (covers-stiffness v N wide high table T g) (gaps .1 .1 .1 .0);
+        vapour-pressure = pushes-above _ (covers-pressure v N wide high table T g) (push .0);
       }
 
   -- some level says enough of a pair for it to be accepted
@@ -50,45 +45,28 @@ module _ (v : ℕ) (wide : 7 ≤ v) (table : List ℕ) (t liquid vapour pressure
       → number (pairAnswer (suc v) table t liquid vapour pressureTolerance gibbsTolerance) ≡ 0
   unfolding pairAnswer
   good-pair sound N high good =
-      let rows = table-parts table (sound .table-sound) in
+      let steps = pairSteps (suc v) table t liquid vapour pressureTolerance gibbsTolerance in
       let T = temperature-in t (above-triple-point t (sound .temperature)) in
       let l = density-in liquid (holds (sound .liquid-density)) in
       let g = density-in vapour (holds (sound .vapour-density)) in
       let apart = ≺→≼ (≺-trans (sound .vapour-side) (sound .liquid-side)) in
-      accepted number 0 (pairSteps (suc v) table t liquid vapour pressureTolerance gibbsTolerance) _ tt refl .1 (
-        rows .0,
+      let passed = all-behind 7 steps .1 (
+        sound-pair (suc v) table t liquid vapour pressureTolerance gibbsTolerance .1 sound,
         (
-          rows .1,
+          pushes-beyond _ (covers-pressure v N wide high table T g) (good .vapour-pressure),
           (
-            sound .temperature,
+            gap-beyond _ pressureTolerance (covers-pressureGap v N wide high table T l g) (good .pressures),
             (
-              together _ _ (sound .liquid-density) (sound .vapour-density),
+              gap-beyond _ gibbsTolerance (covers-gibbsGap v N wide high table T l g apart) (good .gibbs),
               (
-                together _ _ (sound .pressure-tolerance) (sound .gibbs-tolerance),
-                (
-                  on-sides liquid vapour (sound .liquid-side) (sound .vapour-side),
-                  (
-                    together _ _ (under _ (sound .liquid-ceiling)) (under _ (sound .vapour-ceiling)),
-                    (
-                      gap-beyond _ pressureTolerance (covers-pressureGap v N wide high table T l g) (good .pressures),
-                      (
-                        gap-beyond _ gibbsTolerance (covers-gibbsGap v N wide high table T l g apart) (good .gibbs),
-                        (
-                          pushes-beyond _ (covers-stiffness v N wide high table T l) (good .liquid-pushes),
-                          (
-                            pushes-beyond _ (covers-stiffness v N wide high table T g) (good .vapour-pushes),
-                            tt,
-                          ),
-                        ),
-                      ),
-                    ),
-                  ),
-                ),
+                pushes-beyond _ (covers-stiffness v N wide high table T l) (good .liquid-pushes),
+                (pushes-beyond _ (covers-stiffness v N wide high table T g) (good .vapour-pushes), tt),
               ),
             ),
           ),
         ),
-      )
+      ) in
+      accepted number 0 steps _ tt refl .1 passed
 
 -- ---- the density for a given pressure
 module _ (v : ℕ) (wide : 7 ≤ v) (table : List ℕ) (t rho target tolerance : Float) where
@@ -126,7 +104,7 @@ module _ (v : ℕ) (wide : 7 ≤ v) (table : List ℕ) (t rho target tolerance :
                 (
                   sound .tolerance-range,
                   (
-                    under _ (sound .ceiling),
+                    under-ceiling _ .1 (sound .ceiling),
                     (
                       gap-beyond _ tolerance (covers-targetGap v N wide high table T d (exactOf target)) (good .near),
                       (

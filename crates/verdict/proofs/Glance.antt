@@ -1,4 +1,4 @@
--- The pair check's steps at a glance, in the order of document 01's numbers. Assumes nothing.
+-- The pair check's steps at a glance, in the order of document 01's numbers, with 21 of document 02, f, between 8 and 9. Assumes nothing.
 use Prim.Native.Nat.{ℕ}
 use mathlib.Core.Path.{_≡_, refl}
 use mathlib.Core.Bool.{_&&_}
@@ -11,7 +11,7 @@ use Rattle.doubles.specs.Range.{acceptedPairTemperature, acceptedDensity, accep
 use Rattle.term.specs.Sound.{soundLength, firstBroken}
 use Rattle.equation.specs.Rules.{pressure, stiffness, gibbsGap, pressureGap}
 use Rattle.verdict.specs.declared.Refusal.the-variants.{TableLength, BrokenTerm, Temperature, Density, Tolerance, Sides, Ceiling}
-use Rattle.verdict.specs.declared.Answer.the-variants.{Refused, PressureGap, GibbsGap, Stiffness}
+use Rattle.verdict.specs.declared.Answer.the-variants.{Refused, VapourPressure, PressureGap, GibbsGap, Stiffness}
 use Rattle.verdict.specs.Rules.{pairSteps, onSides, underCeiling, gapPasses, pushesBack, handedOut}
 
 pub pair-checks : (w : ℕ) (table : List ℕ) (t liquid vapour pressureTolerance gibbsTolerance : Float)
@@ -23,6 +23,7 @@ pub pair-checks : (w : ℕ) (table : List ℕ) (t liquid vapour pressureToleranc
     ∷ record { passes = acceptedTolerance pressureTolerance && acceptedTolerance gibbsTolerance; otherwise = Refused Tolerance }
     ∷ record { passes = onSides liquid vapour; otherwise = Refused Sides }
     ∷ record { passes = underCeiling (pressure w table (exactOf t) (exactOf liquid)) && underCeiling (pressure w table (exactOf t) (exactOf vapour)); otherwise = Refused Ceiling }
+    ∷ record { passes = pushesBack (pressure w table (exactOf t) (exactOf vapour)); otherwise = VapourPressure (handedOut (pressure w table (exactOf t) (exactOf vapour))) }
     ∷ record { passes = gapPasses (pressureGap w table (exactOf t) (exactOf liquid) (exactOf vapour)) pressureTolerance; otherwise = PressureGap (handedOut (pressureGap w table (exactOf t) (exactOf liquid) (exactOf vapour))) }
     ∷ record { passes = gapPasses (gibbsGap w table (exactOf t) (exactOf liquid) (exactOf vapour)) gibbsTolerance; otherwise = GibbsGap (handedOut (gibbsGap w table (exactOf t) (exactOf liquid) (exactOf vapour))) }
     ∷ record { passes = pushesBack (stiffness w table (exactOf t) (exactOf liquid)); otherwise = Stiffness (handedOut (stiffness w table (exactOf t) (exactOf liquid))) }

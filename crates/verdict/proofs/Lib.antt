@@ -2,6 +2,7 @@
 pub mod Order
 pub mod Tests
 pub mod Tables
+pub mod SoundPairs
 pub mod HandedOut
 pub mod Ready
 pub mod Settled

@@ -1,9 +1,11 @@
 -- Which step of an order of checks gave the answer, told by the answer's number. Assumes nothing.
-use Prim.Native.Nat.{ℕ, zero, suc}
+use Prim.Native.Nat.{ℕ, zero, suc, _≤_}
 use mathlib.Core.Path.{_≡_, refl, sym, _∙_, ap, subst}
 use mathlib.Core.Bool.{Bool, true, false, not, _&&_}
 use mathlib.Core.List.{List, [], _∷_}
 use mathlib.Core.Logic.{_↔_, _⊎_, inl, inr, ⊎-elim}
+use native.Mathlib.Omega.{arith}
+use lib.ListN.{take, drop}
 use lib.Dec.{eqb, T, T-not, eqb→eq}
 use borrow.Author.Tests.{eq-eqb}
 use Rattle.verdict.specs.Steps.{Step, firstFailing, AllPass, FailsAt}
@@ -36,6 +38,35 @@ module _ {A : Type 0} where
   fails-at k [] last f = absurd f
   fails-at zero (step ∷ rest) last f = rw f
   fails-at (suc k) (step ∷ rest) last f = rw (f .0) (fails-at k rest last (f .1))
+
+  -- ---- the first k steps, and those behind them
+
+  -- the steps before one that fails pass
+  pub passed-before : (k n : ℕ) (steps : List (Step A)) → k ≤ n → FailsAt n steps → AllPass (take k steps)
+  passed-before zero n steps h f = tt
+  passed-before (suc k) n [] h f = absurd f
+  passed-before (suc k) zero (step ∷ rest) h f = absurd (omega (arith, h))
+  passed-before (suc k) (suc n) (step ∷ rest) h f = (f .0, passed-before k n rest (omega (arith, h)) (f .1))
+
+  -- step k is the first that fails: the k before it pass, and it is the first of the others
+  pub fails-behind : (k : ℕ) (steps : List (Step A)) → FailsAt k steps ↔ (AllPass (take k steps) × FailsAt 0 (drop k steps))
+  fails-behind zero steps = (λ f. (tt, f), λ p. p .1)
+  fails-behind (suc k) [] = (λ f. absurd f, λ p. p .1)
+  fails-behind (suc k) (step ∷ rest) =
+      let later = fails-behind k rest in (
+        λ f. let p = later .0 (f .1) in ((f .0, p .0), p .1),
+        λ p. (p .0 .0, later .1 (p .0 .1, p .1)),
+      )
+
+  -- every step passes: the first k do, and so do the others
+  pub all-behind : (k : ℕ) (steps : List (Step A)) → AllPass steps ↔ (AllPass (take k steps) × AllPass (drop k steps))
+  all-behind zero steps = (λ a. (tt, a), λ p. p .1)
+  all-behind (suc k) [] = (λ a. (tt, tt), λ p. tt)
+  all-behind (suc k) (step ∷ rest) =
+      let later = all-behind k rest in (
+        λ a. let p = later .0 (a .1) in ((a .0, p .0), p .1),
+        λ p. (p .0 .0, later .1 (p .0 .1, p .1)),
+      )
 
 -- ---- told by the number
 

@@ -1,6 +1,7 @@
 -- What the tests of a verdict say of the exact values, and which facts of the values they follow from. Assumes nothing.
 use mathlib.Core.Path.{_≡_, sym, _∙_, subst}
 use mathlib.Core.Bool.{Bool, true, false, not, _&&_, and-eq-true-iff}
+use mathlib.Core.Logic.{_↔_}
 use lib.Dec.{T}
 use lib.Ieee.{Float}
 use lib.Ieee.Scale.{finite}
@@ -17,7 +18,7 @@ use Rattle.bracket.specs.declared.Bracket.{Bracket}
 use Rattle.bracket.specs.Span.{_∈_}
 use Rattle.bracket.specs.Rules.{ends}
 use Rattle.equation.specs.Accepted.{Temperature, Density, Target}
-use Rattle.verdict.specs.Rules.{gapPasses, pushesBack, onSides}
+use Rattle.verdict.specs.Rules.{gapPasses, pushesBack, onSides, underCeiling}
 use Rattle.verdict.specs.Balance.{bracketWidth}
 
 -- ---- a test of two parts
@@ -69,6 +70,19 @@ pub on-sides : (liquid vapour : Float) → nat 322 ≺ exactOf liquid → exactO
 unfolding onSides
 on-sides liquid vapour l v = rw (≺-leq l, ≺-leq v)
 
+-- ---- an end and a limit
+pub under-ceiling : (b : Bracket) → underCeiling b ≡ true ↔ (value (b .hi) ≼ nat 1000000000)
+unfolding underCeiling
+under-ceiling b = (leq-true _ _, ≼-leq)
+
+pub pushes : (b : Bracket) → pushesBack b ≡ true ↔ (nat 0 ≺ value (b .lo))
+unfolding pushesBack
+pushes b = (λ p. leq-false _ _ (not-true _ p), λ h. rw (≺-leq h))
+
+pub pushes-not : (b : Bracket) → pushesBack b ≡ false ↔ (value (b .lo) ≼ nat 0)
+unfolding pushesBack
+pushes-not b = (λ p. leq-true _ _ (not-false _ p), λ h. rw (≼-leq h))
+
 -- ---- brackets that hold the number x
 within-of : {x : Fraction} (b : Bracket) → x ∈ ends b → Within (value (b .lo)) (value (b .hi)) x
 within-of b h = record { above = h .above; under = h .under }
@@ -87,12 +101,11 @@ gap-beyond b tolerance h k =
     together (leq (negate (exactOf tolerance)) (value (b .lo))) (leq (value (b .hi)) (exactOf tolerance))
     (≼-leq (passes-lower (within-of b h) k)) (≼-leq (passes-upper (within-of b h) k))
 
--- a stiffness that passes is above zero
+-- a stiffness, or a vapour's pressure, that passes is above zero
 pub pushes-above : {x : Fraction} (b : Bracket) → x ∈ ends b → pushesBack b ≡ true → nat 0 ≺ x
-unfolding pushesBack
-pushes-above b h p = ≺-≼-trans (leq-false (value (b .lo)) (nat 0) (not-true _ p)) (h .above)
+pushes-above b h p = ≺-≼-trans (pushes b .0 p) (h .above)
 
--- a stiffness above the width of its bracket passes
+-- one above the width of its bracket passes
 pub pushes-beyond : {x : Fraction} (b : Bracket) → x ∈ ends b → bracketWidth b ≺ x → pushesBack b ≡ true
-unfolding pushesBack bracketWidth
-pushes-beyond b h k = rw (≺-leq (above-width (within-of b h) k))
+unfolding bracketWidth
+pushes-beyond b h k = pushes b .1 (above-width (within-of b h) k)

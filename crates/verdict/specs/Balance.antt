@@ -32,12 +32,14 @@ pub record Covers (e : Ends) (b : Bracket) (x : Fraction) : Type 0 where
   pub under : x ≼ exactOf (e .upper)
 
 -- ---- a pair
--- at level N the pressures and the Gibbs energies differ by no more than their tolerances, and both phases push back when squeezed
+-- at level N the pressures and the Gibbs energies differ by no more than their tolerances, both phases push back when squeezed, and the
+-- vapour's pressure is positive (document 02, f)
 pub record Balanced (N : ℕ) (table : List ℕ) (T liquid vapour pressureTolerance gibbsTolerance : Fraction) : Type 0 where
   pub pressures : absolute (pressureAt N table T liquid ⊖ pressureAt N table T vapour) ≼ pressureTolerance
   pub gibbs : absolute (gibbsGapAt N table T liquid vapour) ≼ gibbsTolerance
   pub liquid-pushes : nat 0 ≺ stiffnessAt N table T liquid
   pub vapour-pushes : nat 0 ≺ stiffnessAt N table T vapour
+  pub vapour-pressure : nat 0 ≺ pressureAt N table T vapour
 
 -- the same with the width of each bracket to spare
 pub record BalancedBeyond (w N : ℕ) (table : List ℕ) (T liquid vapour pressureTolerance gibbsTolerance : Fraction) : Type 0 where
@@ -46,6 +48,7 @@ pub record BalancedBeyond (w N : ℕ) (table : List ℕ) (T liquid vapour pressu
   pub gibbs : absolute (gibbsGapAt N table T liquid vapour) ⊕ bracketWidth (gibbsGap w table T liquid vapour) ≼ gibbsTolerance
   pub liquid-pushes : bracketWidth (stiffness w table T liquid) ≺ stiffnessAt N table T liquid
   pub vapour-pushes : bracketWidth (stiffness w table T vapour) ≺ stiffnessAt N table T vapour
+  pub vapour-pressure : bracketWidth (pressure w table T vapour) ≺ pressureAt N table T vapour
 
 -- a sound table, inputs in the pair check's ranges, each density on its own side, and no upper end of pressure above the ceiling
 pub record SoundPair (w : ℕ) (table : List ℕ) (t liquid vapour pressureTolerance gibbsTolerance : Float) : Type 0 where

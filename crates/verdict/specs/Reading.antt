@@ -1,4 +1,5 @@
--- How an answer is read: the number, the place and the ends that document 01 ("Verdicts") gives each case. Assumes nothing.
+-- How an answer is read: the number, the place and the ends that document 01 ("Verdicts"), and for 21 document 02, f, give each case. Assumes
+-- nothing.
 use Prim.Native.Nat.{ℕ}
 use lib.IntN.{pos}
 use mathlib.Core.Bool.{false, not}
@@ -10,7 +11,7 @@ use Rattle.verdict.specs.declared.Refusal.the-variants.{TableLength, Bro
 use Rattle.verdict.specs.declared.SheetAnswer.{SheetAnswer}
 use Rattle.verdict.specs.declared.SheetAnswer.the-variants as sheet
 use Rattle.verdict.specs.declared.Answer.{Answer}
-use Rattle.verdict.specs.declared.Answer.the-variants.{Accepted, Refused, PressureGap, GibbsGap, Stiffness}
+use Rattle.verdict.specs.declared.Answer.the-variants.{Accepted, Refused, VapourPressure, PressureGap, GibbsGap, Stiffness}
 
 -- a refusal's number, and its place: 0 but for a broken term
 abbrev pub refusalNumber : Refusal → ℕ
@@ -44,6 +45,7 @@ zeros = record { lower = plainZero; upper = plainZero }
 abbrev pub number : Answer → ℕ
 number (Accepted ends) = 0
 number (Refused why) = refusalNumber why
+number (VapourPressure ends) = 21
 number (PressureGap ends) = 9
 number (GibbsGap ends) = 10
 number (Stiffness ends) = 11
@@ -51,6 +53,7 @@ number (Stiffness ends) = 11
 abbrev pub place : Answer → ℕ
 place (Accepted ends) = 0
 place (Refused why) = refusalPlace why
+place (VapourPressure ends) = 0
 place (PressureGap ends) = 0
 place (GibbsGap ends) = 0
 place (Stiffness ends) = 0
@@ -58,6 +61,7 @@ place (Stiffness ends) = 0
 abbrev pub handed : Answer → Ends
 handed (Accepted ends) = ends
 handed (Refused why) = zeros
+handed (VapourPressure ends) = ends
 handed (PressureGap ends) = ends
 handed (GibbsGap ends) = ends
 handed (Stiffness ends) = ends

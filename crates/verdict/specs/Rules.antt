@@ -1,5 +1,5 @@
 -- The answers by document 01's table of numbers ("Verdicts"): the checks of each call, in the order of the numbers, with what each hands out
--- where it fails. w is the count of bits of the sheet numbers. Assumes nothing.
+-- where it fails; the pair check's 21 is document 02's (f). w is the count of bits of the sheet numbers. Assumes nothing.
 use Prim.Native.Nat.{ℕ}
 use mathlib.Core.Bool.{Bool, not, _&&_}
 use mathlib.Core.List.{List, [], _∷_}
@@ -20,7 +20,7 @@ use Rattle.verdict.specs.declared.Refusal.the-variants.{TableLength, Bro
 use Rattle.verdict.specs.declared.SheetAnswer.{SheetAnswer}
 use Rattle.verdict.specs.declared.SheetAnswer.the-variants as sheet
 use Rattle.verdict.specs.declared.Answer.{Answer}
-use Rattle.verdict.specs.declared.Answer.the-variants.{Accepted, Refused, PressureGap, GibbsGap, Stiffness}
+use Rattle.verdict.specs.declared.Answer.the-variants.{Accepted, Refused, VapourPressure, PressureGap, GibbsGap, Stiffness}
 use Rattle.verdict.specs.Steps.{Step, firstFailing}
 
 -- each end handed out is the f64 of exactly its value
@@ -35,7 +35,7 @@ underCeiling b = leq (value (b .hi)) (nat 1000000000)
 unfoldable pub gapPasses : Bracket → Float → Bool
 gapPasses b tolerance = withinTolerance (value (b .lo)) (value (b .hi)) (exactOf tolerance)
 
--- the lower end is above 0
+-- the lower end is above 0; asked of a stiffness and of the vapour's pressure
 unfoldable pub pushesBack : Bracket → Bool
 pushesBack b = not (leq (value (b .lo)) (nat 0))
 
@@ -73,7 +73,7 @@ stateAccepted w table t rho =
 unfoldable pub stateAnswer : ℕ → List ℕ → (t rho : Float) → SheetAnswer
 stateAnswer w table t rho = firstFailing (stateSteps w table t rho) (stateAccepted w table t rho)
 
--- ---- the density check: all but 7, 10 and 12
+-- ---- the density check: all but 7, 10, 12 and 21
 
 -- 8, 9 and 11, on the brackets of pressure, of pressure less target, and of stiffness
 abbrev pub densityWorked : (p gap s : Bracket) → (tolerance : Float) → List (Step Answer)
@@ -100,7 +100,7 @@ unfoldable pub densityAnswer : ℕ → List ℕ → (t rho target tolerance : Fl
 densityAnswer w table t rho target tolerance =
     firstFailing (densitySteps w table t rho target tolerance) (Accepted (handedOut (pressure w table (exactOf t) (exactOf rho))))
 
--- ---- the pair check: all but 5 and 12; its temperatures start at the triple point (document 02, b)
+-- ---- the pair check: all but 5 and 12. Its temperatures start at the triple point (document 02, b); 21 stands between 8 and 9 (document 02, f)
 
 -- 10 and 11, on the brackets of the Gibbs gap and of the two stiffnesses, the liquid's first
 abbrev pub balanceWorked : (gibbs l v : Bracket) → (gibbsTolerance : Float) → List (Step Answer)
@@ -110,10 +110,11 @@ balanceWorked gibbs l v gibbsTolerance =
     ∷ record { passes = pushesBack v; otherwise = Stiffness (handedOut v) }
     ∷ []
 
--- 8 and 9, on the brackets of the two pressures and of their gap, and what follows
+-- 8, 21 and 9, on the brackets of the two pressures, the vapour's second, and of their gap, and what follows
 abbrev pub pairWorked : (p q gap : Bracket) → (pressureTolerance : Float) → List (Step Answer) → List (Step Answer)
 pairWorked p q gap pressureTolerance rest =
     record { passes = underCeiling p && underCeiling q; otherwise = Refused Ceiling }
+    ∷ record { passes = pushesBack q; otherwise = VapourPressure (handedOut q) }
     ∷ record { passes = gapPasses gap pressureTolerance; otherwise = PressureGap (handedOut gap) }
     ∷ rest
 

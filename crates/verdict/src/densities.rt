@@ -1,4 +1,4 @@
-// The density check: all numbers but 7, 10 and 12.
+// The density check: all numbers but 7, 10, 12 and 21.
 use crate::Answer;
 use crate::Refusal;
 use crate::State;

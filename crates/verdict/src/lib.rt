@@ -1,4 +1,4 @@
-// The answers to a state, a proposed density and a proposed pair: document 01's numbers, places and ends.
+// The answers to a state, a proposed density and a proposed pair: the numbers, places and ends of documents 01 and 02.
 // Nothing here writes to the lent table.
 
 mod handed; // handed.rt: ends handed out, and their tests
@@ -45,6 +45,7 @@ pub enum SheetAnswer {
 pub enum Answer {
     Accepted(Ends),
     Refused(Refusal),
+    VapourPressure(Ends),
     PressureGap(Ends),
     GibbsGap(Ends),
     Stiffness(Ends),

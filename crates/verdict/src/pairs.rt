@@ -85,7 +85,7 @@ fn balanced(gibbs: Bracket, l: Bracket, v: Bracket, gibbs_tolerance: f64, q: Bra
     Answer::Accepted(handed_out(q))
 }
 
-// 8 and 9, by the brackets of the two pressures and of their gap, and what follows.
+// 8, 21 and 9, by the brackets of the two pressures and of their gap, and what follows.
 fn judged(
     p: Bracket,
     q: Bracket,
@@ -102,6 +102,9 @@ fn judged(
 {
     if !both_under_ceiling(p, q) {
         return Answer::Refused(Refusal::Ceiling);
+    }
+    if !pushes_back(q) {
+        return Answer::VapourPressure(handed_out(q));
     }
     if !gap_passes(gap, pressure_tolerance) {
         return Answer::PressureGap(handed_out(gap));

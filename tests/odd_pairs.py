@@ -1,0 +1,57 @@
+"""Random odd tables, and pairs for them that get as far as 21 and behind it (02 f).  Assumes a seeded random.Random.
+
+The tables are data/odd.txt with every coefficient a little off: sound, and with pressures below zero over much of the
+range.  Most pairs have nearly equal pressures, found in floats: they are proposals only, and nothing rests on them.
+"""
+
+import rough_search
+from gen_pairs import near_322
+from second import f64
+from second.equation import phase
+from second.logarithm import logarithm_of_ratio
+from second.term import packed, terms_of
+from second.tests import samples
+from second.verdict import balance
+
+W = f64.word
+
+
+def table(random):
+    return b"".join(packed(term._replace(magnitude=round(term.magnitude * random.uniform(0.99, 1.01))))
+                    for term in terms_of(samples.odd_table()))
+
+
+def liquid_for(table, vapour):
+    """The liquid with the vapour's pressure, by halving where pressure only rises; T does not matter, for t is 0."""
+    rows = [(term.c, term.d, term.t, term.numerator() * 1e-16) for term in terms_of(table)]
+
+    def pressure(rho):
+        return rho * (1 + rough_search.sums(300, rho, rows)[1])
+
+    low, high = 450.0, 600.0
+    for _ in range(60):
+        middle = (low + high) / 2
+        low, high = (middle, high) if pressure(middle) < pressure(vapour) else (low, middle)
+    return low
+
+
+def densities(random, table):
+    """Liquid and vapour: of nearly equal pressure, below zero and above, or close together at 322."""
+    vapour = random.choice([random.uniform(1, 30), random.uniform(30, 80), random.uniform(80, 320)])
+    liquid = liquid_for(table, vapour) + random.choice([0, 0, 1e-4, -1e-2, 1, 20])
+    return random.choice([[W(liquid), W(vapour)], [W(liquid), W(vapour)], [W(liquid), W(vapour)], near_322(random)])
+
+
+def tolerances(random):
+    return [random.choice([0, W(1e3), W(1e6), W(1e6)]), random.choice([0, W(1.0), W(1e6), W(1e6)])]
+
+
+def proposal(random, table):
+    return [samples.between(random, 273.16, 600)] + densities(random, table) + tolerances(random)
+
+
+def behind(table, T, liquid, vapour, pressure_tolerance, gibbs_tolerance):
+    """The number that a pair would get if 21 were not asked.  Assumes that no check before it fails."""
+    T, liquid, vapour = map(f64.exact, (T, liquid, vapour))
+    heavy, light = (phase(32, terms_of(table), T, rho) for rho in (liquid, vapour))
+    return balance(heavy, light, logarithm_of_ratio(32, liquid, vapour), pressure_tolerance, gibbs_tolerance).number
