@@ -52,7 +52,7 @@ static void say_ends(uint64_t number, double lower, double upper)
 {
     switch (number) {
     case WB_VAPOUR_PRESSURE:
-        printf(": its pressure is between %.6g and %.6g Pa", lower, upper);
+        printf(": its pressure is between %.10g and %.10g Pa", lower, upper);
         break;
     case WB_PRESSURE_GAP:
         printf(": the gap is between %.6g and %.6g Pa", lower, upper);
