@@ -36,14 +36,17 @@ def liquid_for(table, vapour):
 
 
 def densities(random, table):
-    """Liquid and vapour: of nearly equal pressure, below zero and above, or close together at 322."""
-    vapour = random.choice([random.uniform(1, 30), random.uniform(30, 80), random.uniform(80, 320)])
+    """Liquid and vapour of nearly equal pressure, or both close to 322.  From about 68 on vapours lie below zero; those
+    from about 30 to 180 do not push back when squeezed."""
+    low, high = random.choice([(1, 30), (30, 68), (30, 68), (60, 180), (180, 320), (180, 320)])
+    vapour = random.uniform(low, high)
     liquid = liquid_for(table, vapour) + random.choice([0, 0, 1e-4, -1e-2, 1, 20])
     return random.choice([[W(liquid), W(vapour)], [W(liquid), W(vapour)], [W(liquid), W(vapour)], near_322(random)])
 
 
 def tolerances(random):
-    return [random.choice([0, W(1e3), W(1e6), W(1e6)]), random.choice([0, W(1.0), W(1e6), W(1e6)])]
+    wide = [W(1e6)] * 4
+    return [random.choice([0, W(1e3)] + wide), random.choice([0, W(1.0)] + wide)]
 
 
 def proposal(random, table):
