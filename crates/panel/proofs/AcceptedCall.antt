@@ -1,5 +1,5 @@
--- What a lab reads off a call: where `wb_pair` gives 0 for the number, the pair is near balance by the equation itself, at every level from
--- 256. Assumes nothing.
+-- What a lab reads off a call: where `wb_pair` gives 0 for the number, the pair is near balance by the equation itself and its vapour has a
+-- positive pressure, at every level from 256. Assumes nothing.
 use Prim.Native.Nat.{ℕ, _≤_}
 use mathlib.Core.Path.{_≡_, sym, _∙_}
 use mathlib.Core.List.{List}

@@ -19,11 +19,12 @@ use Rattle.verdict.specs.declared.Ends.{Ends}
 use Rattle.verdict.specs.Reading.{number, handed, sheetNumber, sheetPressure, sheetStiffness}
 use Rattle.verdict.specs.Steps.{FailsAt}
 use Rattle.verdict.specs.Rules.{handedOut, stateSteps, stateAnswer, densitySteps, densityAnswer, pairSteps, pairAnswer}
-use Rattle.verdict.specs.Balance.{Covers}
+use Rattle.verdict.specs.Balance.{Covers, SoundPair}
 use Rattle.verdict.specs.Handed.{Handy}
-use Rattle.verdict.proofs.Order.{accepted, all-pass, fails-at}
+use Rattle.verdict.proofs.Order.{accepted, all-pass, fails-at, all-behind}
 use Rattle.verdict.proofs.Tables.{sound}
 use Rattle.verdict.proofs.Tests.{both, holds, temperature-in, above-triple-point, density-in, sides}
+use Rattle.verdict.proofs.SoundPairs.{sound-pair}
 use Rattle.verdict.proofs.HandedOut.{handed-covers}
 use Rattle.verdict.proofs.Ready.{pressure-handy, stiffness-handy, targetGap-handy, pressureGap-handy, gibbsGap-handy}
 use Rattle.verdict.proofs.Demand1.{density-9, density-11, pair-9, pair-10, pair-21, pair-vapour-pressure}
@@ -118,6 +119,15 @@ module _ (table : List ℕ) (t rho target tolerance : Float) where
 
 -- ---- the pair check
 module _ (table : List ℕ) (t liquid vapour pressureTolerance gibbsTolerance : Float) where
+  -- the vapour's pressure, of a pair that is accepted or gets 21
+  vapour-covers : SoundPair 32 table t liquid vapour pressureTolerance gibbsTolerance → (e : Ends) → e ≡ handedOut (pressure 32 table (exactOf t) (exactOf vapour))
+      → (N : ℕ) → 256 ≤ N → Covers e (pressure 32 table (exactOf t) (exactOf vapour)) (pressureAt N table (exactOf t) (exactOf vapour))
+  vapour-covers pair e is N high =
+      let hot = above-triple-point t (pair .temperature) in
+      let thin = holds (pair .vapour-density) in
+      between e _ (pressure-handy table (pair .table-sound) t hot vapour thin) is
+      (covers-pressure 31 N (lit≤ tt) high table (temperature-in t hot) (density-in vapour thin))
+
   -- accepted: the vapour's pressure
   module _ (zero : number (pairAnswer 32 table t liquid vapour pressureTolerance gibbsTolerance) ≡ 0) where
     pub pair-ends :
@@ -131,12 +141,10 @@ module _ (table : List ℕ) (t liquid vapour pressureTolerance gibbsTolerance : 
         → Covers (handed (pairAnswer 32 table t liquid vapour pressureTolerance gibbsTolerance)) (pressure 32 table (exactOf t) (exactOf vapour))
         (pressureAt N table (exactOf t) (exactOf vapour))
     unfolding pairAnswer
-    pair-covers N high =
-        let steps = accepted number 0 (pairSteps 32 table t liquid vapour pressureTolerance gibbsTolerance) _ tt refl .0 zero in
-        let hot = above-triple-point t (steps .1 .1 .0) in
-        let thin = holds (both (acceptedDensity liquid) (acceptedDensity vapour) (steps .1 .1 .1 .0) .1) in
-        between _ _ (pressure-handy table (sound table (steps .0) (steps .1 .0)) t hot vapour thin) pair-ends
-        (covers-pressure 31 N (lit≤ tt) high table (temperature-in t hot) (density-in vapour thin))
+    pair-covers =
+        let steps = pairSteps 32 table t liquid vapour pressureTolerance gibbsTolerance in
+        let first = all-behind 7 steps .0 (accepted number 0 steps _ tt refl .0 zero) .0 in
+        vapour-covers (sound-pair 32 table t liquid vapour pressureTolerance gibbsTolerance .0 first) _ pair-ends
 
   -- 21: the vapour's pressure (document 02, f)
   module _ (twentyone : number (pairAnswer 32 table t liquid vapour pressureTolerance gibbsTolerance) ≡ 21) where
@@ -151,12 +159,7 @@ module _ (table : List ℕ) (t liquid vapour pressureTolerance gibbsTolerance : 
     pub pair-vapour-covers : (N : ℕ) → 256 ≤ N
         → Covers (handed (pairAnswer 32 table t liquid vapour pressureTolerance gibbsTolerance)) (pressure 32 table (exactOf t) (exactOf vapour))
         (pressureAt N table (exactOf t) (exactOf vapour))
-    pair-vapour-covers N high =
-        let pair = pair-vapour-pressure 32 table t liquid vapour pressureTolerance gibbsTolerance .0 twentyone .0 in
-        let hot = above-triple-point t (pair .temperature) in
-        let thin = holds (pair .vapour-density) in
-        between _ _ (pressure-handy table (pair .table-sound) t hot vapour thin) pair-vapour-ends
-        (covers-pressure 31 N (lit≤ tt) high table (temperature-in t hot) (density-in vapour thin))
+    pair-vapour-covers = vapour-covers (pair-vapour-pressure 32 table t liquid vapour pressureTolerance gibbsTolerance .0 twentyone .0) _ pair-vapour-ends
 
   -- 9: the pressure of the liquid less that of the vapour
   module _ (nine : number (pairAnswer 32 table t liquid vapour pressureTolerance gibbsTolerance) ≡ 9) where
