@@ -6,7 +6,7 @@ The temperatures are those of a steriliser's plugs, the densities the rough sear
 eight digits so that every machine makes the same file.  The tolerances are a little above the brackets' widths in
 docs/TOLERANCES.md.  The last six are wrong on purpose.  Lines come from the second program, with data/terms.bin.
 
-The odd table (data/odd.txt) is sound and describes no water: from about 69 to 491 kg/m3 its pressures lie below zero,
+The odd table (data/odd.txt) is sound and describes no water: from about 68 to 491 kg/m3 its pressures lie below zero,
 and two densities there are in balance and push back when squeezed.  Those two are what 02 f is about.
 `python3 data/propose.py` writes the four files.  Assumes nothing.
 """

@@ -15,9 +15,9 @@ import odd_pairs
 from gen_pairs import liquid, near_322, vapour
 from second import f64
 from second.panel import chosen
-from second.term import Term, packed
 from second.tests import samples
-from second.tests.test_verdicts import CEILING_RHO, CEILING_T, CEILING_TABLE, EASY, NONE, OVER_TABLE
+from second.tests.test_verdicts import (AT_ZERO, BELOW_ZERO, CEILING_RHO, CEILING_T, CEILING_TABLE, EASY, NONE,
+                                        OVER_TABLE)
 from second.verdict import density_check, pair_check, state_sheet
 from stream import record, run_of
 
@@ -89,12 +89,13 @@ def fixed():
         yield 0, EASY, [T, W(1.0)]
         yield 1, EASY, [T, W(1.0), 0, W(1e6)]
         yield 2, EASY, [T, W(323.0), W(321.0), W(1e6), W(1e6)]
-    for magnitude in (2 * 10 ** 16, 19999999995343388, 19999999995343387):
-        yield 2, packed(Term(0, 1, 0, 1, magnitude)), [W(300.0), W(323.0), W(161.0), W(1e6), W(1e6)]
-    for rho in (W(267.05587), W(476.11653)):
-        yield 0, samples.odd_table(), [W(394.15), rho]
-        yield 1, samples.odd_table(), [W(394.15), rho, 0, W(1e6)]
-    yield 2, samples.odd_table(), [W(394.15), W(476.11653), W(267.05587), W(1000.0), W(1.0)]
+    for table in AT_ZERO:
+        yield 2, table, [W(300.0), W(323.0), W(161.0), W(1e6), W(1e6)]
+    T, *pair = BELOW_ZERO
+    for rho in pair:
+        yield 0, samples.odd_table(), [T, rho]
+        yield 1, samples.odd_table(), [T, rho, 0, W(1e6)]
+    yield 2, samples.odd_table(), [T, *pair, W(1000.0), W(1.0)]
 
 
 def calls():

@@ -34,13 +34,16 @@ def test_boiling_point():
 
 
 def test_saturation_line():
-    """The rough search settles all along the line, and its pairs are accepted at a generous tolerance."""
+    """The rough search settles all along the line, and its pairs are accepted at a generous tolerance; the vapour's
+    pressure is far above its bracket's width (docs/TOLERANCES.md)."""
     pressures = []
-    for T in [273.16] + list(range(280, 641, 30)) + [645, 647]:
+    for T in [273.16] + list(range(280, 641, 10)) + [645, 647]:
         liquid, vapour = rough_search.pair(T)
         answer = pair_check(table5(), W(T), W(liquid), W(vapour), W(1e4), W(10.0))
         assert answer.number == 0, T
-        pressures.append(floats(answer)[0])
+        low, high = floats(answer)
+        assert low > 5e5 * (high - low), T
+        pressures.append(low)
     assert pressures == sorted(pressures) and abs(pressures[0] - 611.66) < 0.5
 
 

@@ -28,6 +28,12 @@ CEILING_T, CEILING_RHO = 1250.0, 1288.0
 CEILING_MAGNITUDE, OVER_MAGNITUDE = 864538028836250, 864538028836251
 CEILING_TABLE, OVER_TABLE = bytes.fromhex("040003124af21a859a"), bytes.fromhex("040003124af21a859b")
 
+# A vapour's pressure at zero: one term c 0, d 1, t 0 at density 161.  With the first coefficient, -2, both its ends are
+# 0, with the second its lower end is, and with the third none.
+AT_ZERO = [packed(Term(0, 1, 0, 1, magnitude)) for magnitude in (2 * 10 ** 16, 19999999995343388, 19999999995343387)]
+# T, liquid and vapour that the odd table has in balance below zero (data/propose.py).
+BELOW_ZERO = W(394.15), W(476.11653), W(267.05587)
+
 
 def numbers(table, T, rho, target=W(0.0), tolerance=WIDE):
     """The numbers of the state sheet and the density check."""
@@ -141,7 +147,7 @@ def test_sides_line():
 
 def test_order_of_the_numbers():
     """Everything is bad at first; mended one by one, the numbers come in order."""
-    broken, pulled = packed(Term(0, 0, 0, 0, 1)), packed(Term(0, 1, 0, 1, 2 * 10 ** 16))
+    broken, pulled = packed(Term(0, 0, 0, 0, 1)), AT_ZERO[0]
     bad = dict(table=b"", T=NAN, rho=NAN, target=NAN, tolerance=NAN)
     for mend, number in ((dict(), 1), (dict(table=broken), 2), (dict(table=OVER_TABLE), 3), (dict(T=W(1250.0)), 4),
                          (dict(rho=W(1288.0)), 5), (dict(target=W(0.0)), 6), (dict(tolerance=0), 8),
@@ -205,18 +211,17 @@ def test_gibbs_gap_is_asked_after_pressure():
 
 
 def test_vapour_pressure_line():
-    """02 f: one term with d 1 and t 0 at density 161; with the coefficient -2 there is no pressure at all there."""
-    for magnitude, number in ((2 * 10 ** 16, 21), (19999999995343388, 21), (19999999995343387, 9)):
-        table = packed(Term(0, 1, 0, 1, magnitude))
-        lower, upper = state_sheet(table, W(300.0), W(161.0)).ends[:2]
-        assert (lower == 0) == (number == 21) and (upper == 0) == (magnitude == 2 * 10 ** 16)
+    """02 f: a lower end of exactly 0 is not above it."""
+    for table, zeros, number in zip(AT_ZERO, (2, 1, 0), (21, 21, 9)):
+        ends = state_sheet(table, W(300.0), W(161.0)).ends[:2]
+        assert ends.count(0) == zeros and (ends[0] == 0) == (number == 21)
         answer = pair_check(table, W(300.0), W(323.0), W(161.0), WIDE, WIDE)
-        assert answer.number == number and (number == 9 or answer.ends == (lower, upper))
+        assert answer.number == number and (number == 9 or answer.ends == ends)
 
 
 def test_vapour_pressure_below_zero():
     """02 f: with the odd table two densities balance below zero.  All that is asked behind 21 passes."""
-    T, liquid, vapour, p, g = W(394.15), W(476.11653), W(267.05587), W(1000.0), W(1.0)
+    (T, liquid, vapour), p, g = BELOW_ZERO, W(1000.0), W(1.0)
     terms = terms_of(odd_table())
     heavy, light = (phase(32, terms, f64.exact(T), f64.exact(rho)) for rho in (liquid, vapour))
     ln_q = logarithm_of_ratio(32, f64.exact(liquid), f64.exact(vapour))
