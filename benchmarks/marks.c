@@ -1,6 +1,6 @@
-/* marks TABLE PAIRS: times the library's code against the same rules on MPFR, in one process and on the same inputs: single
-   operations, exponentials, states by number of terms, pairs.  TABLE is Table 5 packed; PAIRS has f64s as this machine spells
-   them: T, liquid, vapour.  Prints a line for each; on an emulator only the ratios say something. */
+/* marks WIDTH TABLE PAIRS: times the library's code against the same rules on MPFR at a width of 32 or 53 bits, in one process
+   and on the same inputs: single operations, exponentials, states by number of terms, pairs.  TABLE is Table 5 packed; PAIRS has
+   f64s as this machine spells them: T, liquid, vapour.  Prints a line for each; on an emulator only the ratios say something. */
 #include <stdio.h>
 #include <stdlib.h>
 #include <string.h>
@@ -14,7 +14,7 @@ enum { BIAS = 262144, OPERANDS = 512, DENSITIES = 16, ARGUMENTS = 3 * DENSITIES,
 static uint64_t digits_and_place(mpfr_srcptr x)
 {
     const mp_limb_t *digits = mpfr_custom_get_significand(x);
-    return mpfr_zero_p(x) ? 0 : (*digits >> 32) + (mpfr_get_exp(x) - BITS + BIAS);
+    return mpfr_zero_p(x) ? 0 : (*digits >> (64 - peer_bits)) + (mpfr_get_exp(x) - peer_bits + BIAS);
 }
 
 static uint64_t bits_of(double x)
@@ -44,9 +44,9 @@ static void make_operands(void)
     for (size_t i = 0; i < 2 * OPERANDS; i++) {
         uint64_t *w = words + 3 * i;
         w[0] = i % 2 ? 0 : next_random() & 1;
-        w[1] = (uint64_t)1 << 31 | next_random() >> 33;
-        w[2] = BIAS - 31 + next_random() % (i / 2 % 2 ? 16 : 64);
-        mpfr_init2(numbers[i], BITS);
+        w[1] = (uint64_t)1 << (peer_bits - 1) | next_random() >> (65 - peer_bits);
+        w[2] = BIAS + 1 - peer_bits + next_random() % (i / 2 % 2 ? 16 : 64);
+        mpfr_init2(numbers[i], peer_bits);
         mpfr_set_ui_2exp(numbers[i], w[1], (mpfr_exp_t)w[2] - BIAS, MPFR_RNDN);
         if (w[0])
             mpfr_neg(numbers[i], numbers[i], MPFR_RNDN);
@@ -61,7 +61,7 @@ typedef struct {
 static uint64_t library_single(const void *argument)
 {
     const single *s = argument;
-    return marks_single(s->number, s->up, words, 6 * OPERANDS);
+    return marks_single(peer_bits, s->number, s->up, words, 6 * OPERANDS);
 }
 
 static uint64_t peer_single(const void *argument)
@@ -69,10 +69,10 @@ static uint64_t peer_single(const void *argument)
     const single *s = argument;
     mpfr_rnd_t direction = s->up ? MPFR_RNDU : MPFR_RNDD;
     uint64_t total = 0;
-    MPFR_DECL_INIT(r, BITS);
+    BRACKET(r); /* one of its ends */
     for (size_t i = 0; i < 2 * OPERANDS; i += 2) {
-        s->operation(r, numbers[i], numbers[i + 1], direction);
-        total += digits_and_place(r);
+        s->operation(r.lo, numbers[i], numbers[i + 1], direction);
+        total += digits_and_place(r.lo);
     }
     return total;
 }
@@ -99,8 +99,8 @@ static void make_end(uint64_t *w, mpfr_srcptr x)
 {
     const mp_limb_t *digits = mpfr_custom_get_significand(x);
     w[0] = 0;
-    w[1] = *digits >> 32;
-    w[2] = mpfr_get_exp(x) - BITS + BIAS;
+    w[1] = *digits >> (64 - peer_bits);
+    w[2] = mpfr_get_exp(x) - peer_bits + BIAS;
 }
 
 static void make_arguments(arguments *a, double from, double to)
@@ -122,7 +122,7 @@ static void make_arguments(arguments *a, double from, double to)
 static uint64_t library_exponentials(const void *argument)
 {
     const arguments *a = argument;
-    return marks_exponential(a->words, 6 * ARGUMENTS);
+    return marks_exponential(peer_bits, a->words, 6 * ARGUMENTS);
 }
 
 static uint64_t peer_exponentials(const void *argument)
@@ -182,7 +182,7 @@ static packed of_terms(size_t count)
 static uint64_t library_state(const void *argument)
 {
     const packed *t = argument;
-    return wb_state(t->bytes, t->length, STEAM_T, STEAM_RHO, 2);
+    return wb_state(peer_bits, t->bytes, t->length, STEAM_T, STEAM_RHO, 2);
 }
 
 static uint64_t peer_state_bits(const void *argument)
@@ -218,7 +218,7 @@ static uint64_t library_pairs(const void *argument)
     uint64_t total = 0;
     for (size_t i = 0; i < *(const size_t *)argument; i++) {
         const double *p = pairs[i];
-        total += wb_pair(table5.bytes, table5.length, p[0], p[1], p[2], 1e6, 1e6, 2);
+        total += wb_pair(peer_bits, table5.bytes, table5.length, p[0], p[1], p[2], 1e6, 1e6, 2);
     }
     return total;
 }
@@ -258,13 +258,16 @@ static size_t read_file(const char *name, void *to, size_t most)
 
 int main(int count, char **arguments)
 {
-    if (count == 3)
-        table5.length = read_file(arguments[1], table5.bytes, sizeof table5.bytes);
-    if (table5.length != ROWS * ROW || read_file(arguments[2], pairs, sizeof pairs) != sizeof pairs) {
-        fputs("usage: marks TABLE5 PAIRS, 38 terms and 1,000 pairs\n", stderr);
+    if (count == 4) {
+        peer_bits = atoi(arguments[1]);
+        table5.length = read_file(arguments[2], table5.bytes, sizeof table5.bytes);
+    }
+    if ((peer_bits != 32 && peer_bits != 53) || table5.length != ROWS * ROW
+        || read_file(arguments[3], pairs, sizeof pairs) != sizeof pairs) {
+        fputs("usage: marks 32|53 TABLE5 PAIRS, 38 terms and 1,000 pairs\n", stderr);
         return 2;
     }
-    measure_heading();
+    measure_heading(arguments[1]);
     measure_singles();
     measure_exponentials();
     measure_states();

@@ -44,9 +44,9 @@ static void settle(side *s, const void *argument)
         s->calls *= 2;
 }
 
-void measure_heading(void)
+void measure_heading(const char *width)
 {
-    printf("%-30s %12s %12s %6s %16s %6s\n", "", "library, ns", "MPFR, ns", "ratio", "MPFR stops, ns", "ratio");
+    printf("%s bits %-22s %12s %12s %6s %16s %6s\n", width, "", "library, ns", "MPFR, ns", "ratio", "MPFR stops, ns", "ratio");
 }
 
 /* A peer's time and what the library takes of it. */

@@ -15,8 +15,8 @@ typedef struct {
     const void *argument;
 } work;
 
-/* The heading, and a line for each kind of work: nanoseconds an operation for each side, and library over peer, either way. */
-void measure_heading(void);
+/* The heading with the width in bits, and a line for each kind of work: nanoseconds an operation for each side, and library over peer, either way. */
+void measure_heading(const char *width);
 void measure(const work *w);
 
 #endif

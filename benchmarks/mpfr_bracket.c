@@ -1,10 +1,12 @@
 /* Given values, the four operations and powers of brackets on MPFR.  Assumes what mpfr_bracket.h says. */
 #include "mpfr_bracket.h"
 
+int peer_bits = 32;
+
 void peer_ready(bracket *b)
 {
-    mpfr_custom_init_set(b->lo, MPFR_ZERO_KIND, 0, BITS, &b->digits[0]);
-    mpfr_custom_init_set(b->hi, MPFR_ZERO_KIND, 0, BITS, &b->digits[1]);
+    mpfr_custom_init_set(b->lo, MPFR_ZERO_KIND, 0, peer_bits, &b->digits[0]);
+    mpfr_custom_init_set(b->hi, MPFR_ZERO_KIND, 0, peer_bits, &b->digits[1]);
 }
 
 void peer_given(bracket *r, double x)
@@ -55,13 +57,13 @@ static void of_one_sign(bracket *r, mpfr_srcptr x, mpfr_srcptr y, const bracket 
 /* Both reach across zero.  Rounding keeps the order, so the least of two rounded products is the least one rounded. */
 static void of_both_signs(bracket *r, const bracket *a, const bracket *b)
 {
-    MPFR_DECL_INIT(other, BITS);
+    BRACKET(other);
     mpfr_mul(r->lo, a->lo, b->hi, MPFR_RNDD);
-    mpfr_mul(other, a->hi, b->lo, MPFR_RNDD);
-    mpfr_min(r->lo, r->lo, other, MPFR_RNDD);
+    mpfr_mul(other.lo, a->hi, b->lo, MPFR_RNDD);
+    mpfr_min(r->lo, r->lo, other.lo, MPFR_RNDD);
     mpfr_mul(r->hi, a->lo, b->lo, MPFR_RNDU);
-    mpfr_mul(other, a->hi, b->hi, MPFR_RNDU);
-    mpfr_max(r->hi, r->hi, other, MPFR_RNDU);
+    mpfr_mul(other.hi, a->hi, b->hi, MPFR_RNDU);
+    mpfr_max(r->hi, r->hi, other.hi, MPFR_RNDU);
 }
 
 void peer_product(bracket *r, const bracket *a, const bracket *b)

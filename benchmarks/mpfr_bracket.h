@@ -1,5 +1,5 @@
-/* Brackets on MPFR: two numbers of 32 bits, rounded down and up once an operation (01, "Sheet numbers and brackets").
-   A number of MPFR at this precision, with its wide range of exponents, is a sheet number.
+/* Brackets on MPFR: two numbers of 32 or 53 bits, rounded down and up once an operation (01, "Sheet numbers and brackets"; 02 d).
+   A number of MPFR at such a precision, with its wide range of exponents, is a sheet number.
    Assumes that a result is none of its operands (but for a sum's first), and that a divisor's lower end is above zero. */
 #ifndef MPFR_BRACKET_H
 #define MPFR_BRACKET_H
@@ -7,7 +7,8 @@
 #include <stdint.h>
 #include <mpfr.h>
 
-enum { BITS = 32 };
+/* The width of every bracket that is made ready from now on: 32 or 53, so that a number's digits are the top of one limb. */
+extern int peer_bits;
 
 typedef struct {
     mpfr_t lo, hi;

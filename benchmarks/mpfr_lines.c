@@ -57,8 +57,12 @@ static void read_bracket(bracket *b)
     end(b->hi);
 }
 
-static void read_table(uint8_t *bytes, size_t length)
+static uint8_t table[LONGEST + 8];
+
+/* Gives the table's length. */
+static size_t read_table(void)
 {
+    uint64_t length = word();
     if (length > LONGEST) {
         fputs("mpfr_lines: a table is too long\n", stderr);
         exit(1);
@@ -66,8 +70,9 @@ static void read_table(uint8_t *bytes, size_t length)
     for (size_t at = 0; at < length; at += 8) {
         uint64_t w = word();
         for (size_t i = 0; i < 8; i++)
-            bytes[at + i] = w >> (56 - 8 * i);
+            table[at + i] = w >> (56 - 8 * i);
     }
+    return length;
 }
 
 /* The words of the line that is being made. */
@@ -90,11 +95,11 @@ static void put_f64(const double *two)
 
 static void put_end(mpfr_srcptr x)
 {
-    const mp_limb_t *digits = mpfr_custom_get_significand(x); /* the 32 bits stand at the top of 64 */
+    const mp_limb_t *digits = mpfr_custom_get_significand(x); /* they stand at the top of 64 bits */
     int zero = mpfr_zero_p(x);
     put(!zero && mpfr_signbit(x));
-    put(zero ? 0 : *digits >> 32);
-    put(zero ? 0 : mpfr_get_exp(x) - BITS + BIAS);
+    put(zero ? 0 : *digits >> (64 - peer_bits));
+    put(zero ? 0 : mpfr_get_exp(x) - peer_bits + BIAS);
 }
 
 static void put_bracket(const bracket *b)
@@ -113,39 +118,41 @@ static void end_line(void)
 typedef int single(mpfr_ptr, mpfr_srcptr, mpfr_srcptr, mpfr_rnd_t);
 typedef void operation(bracket *, const bracket *, const bracket *);
 
-/* In each answer, first is the record's first word. */
-static void answer_single(uint64_t first)
+/* In each answer, the record's first word has been read: it is the width. */
+static void answer_single(void)
 {
     static single *const operations[] = {mpfr_add, mpfr_sub, mpfr_mul, mpfr_div};
+    single *operation = operations[word()];
     mpfr_rnd_t direction = word() ? MPFR_RNDU : MPFR_RNDD;
     BRACKET(operands);
-    MPFR_DECL_INIT(r, BITS);
+    BRACKET(r);
     read_bracket(&operands); /* two single numbers here */
-    operations[first](r, operands.lo, operands.hi, direction);
-    put_end(r);
+    operation(r.lo, operands.lo, operands.hi, direction);
+    put_end(r.lo);
 }
 
-static void answer_brackets(uint64_t first)
+static void answer_brackets(void)
 {
     static operation *const operations[] = {peer_sum, peer_difference, peer_product, peer_quotient};
+    uint64_t kind = word();
     unsigned n = word();
     BRACKET(a);
     BRACKET(b);
     BRACKET(r);
     read_bracket(&a);
     read_bracket(&b);
-    if (first == 4)
+    if (kind == 4)
         peer_power(&r, &a, n);
     else
-        operations[first](&r, &a, &b);
+        operations[kind](&r, &a, &b);
     put_bracket(&r);
 }
 
-static void answer_series(uint64_t first)
+static void answer_series(void)
 {
     BRACKET(x);
     BRACKET(r);
-    if (first == 0) {
+    if (word() == 0) {
         read_bracket(&x);
         peer_exponential(&r, &x);
     } else {
@@ -157,25 +164,22 @@ static void answer_series(uint64_t first)
     put_bracket(&r);
 }
 
-static uint8_t table[LONGEST + 8];
-
-/* A table's length is the first word of a state and of a pair. */
-static void answer_state(uint64_t first)
+static void answer_state(void)
 {
     peer_state_ends r;
-    read_table(table, first);
+    size_t length = read_table();
     double T = f64(), rho = f64();
-    peer_state(&r, table, first, T, rho);
+    peer_state(&r, table, length, T, rho);
     put_f64(r.pressure);
     put_f64(r.stiffness);
 }
 
-static void answer_pair(uint64_t first)
+static void answer_pair(void)
 {
     peer_pair_ends r;
-    read_table(table, first);
+    size_t length = read_table();
     double T = f64(), liquid = f64(), vapour = f64();
-    peer_pair(&r, table, first, T, liquid, vapour);
+    peer_pair(&r, table, length, T, liquid, vapour);
     put_f64(r.liquid_pressure);
     put_f64(r.vapour_pressure);
     put_f64(r.pressure_gap);
@@ -188,15 +192,17 @@ int main(int count, char **arguments)
 {
     static const struct {
         const char *name;
-        void (*answer)(uint64_t);
+        void (*answer)(void);
     } kinds[] = {{"single", answer_single}, {"brackets", answer_brackets}, {"series", answer_series},
                  {"states", answer_state}, {"pairs", answer_pair}};
     peer_stops = count == 3 && strcmp(arguments[2], "stop") == 0;
     for (size_t i = 0; count == 2 + peer_stops && i < sizeof kinds / sizeof *kinds; i++) {
         if (strcmp(arguments[1], kinds[i].name) != 0)
             continue;
-        for (uint64_t first; next_word(&first); end_line())
-            kinds[i].answer(first);
+        for (uint64_t width; next_word(&width); end_line()) {
+            peer_bits = width;
+            kinds[i].answer();
+        }
         return 0;
     }
     fputs("usage: mpfr_lines single|brackets|series|states|pairs [stop]\n", stderr);

@@ -20,14 +20,14 @@ int peer_stops = 0;
    above zero, do not grow any more, and lie below one unit of the sum's last place. */
 static int only_stretches(const bracket *x, const bracket *term, const bracket *total, unsigned k)
 {
-    return mpfr_sgn(x->hi) > 0 && mpfr_get_exp(term->hi) + BITS < mpfr_get_exp(total->lo) && mpfr_cmp_ui(x->hi, k + 1) <= 0;
+    return mpfr_sgn(x->hi) > 0 && mpfr_get_exp(term->hi) + peer_bits < mpfr_get_exp(total->lo) && mpfr_cmp_ui(x->hi, k + 1) <= 0;
 }
 
 /* The upper end goes n numbers on.  Its digits stand at the top of 64 bits; past the greatest of them comes the least, one place up. */
 static void stretch(bracket *b, unsigned n)
 {
     mp_limb_t before = b->digits[1];
-    b->digits[1] += (mp_limb_t)n << (64 - BITS);
+    b->digits[1] += (mp_limb_t)n << (64 - peer_bits);
     if (b->digits[1] < before) {
         b->digits[1] |= (mp_limb_t)1 << 63;
         mpfr_set_exp(b->hi, mpfr_get_exp(b->hi) + 1);

@@ -1,14 +1,16 @@
 #!/usr/bin/env python3
-"""Makes data/proposals.bin, a steriliser's proposals as the bench program reads them, and data/lines.txt, what it
-answers; and the same two for the odd table, data/odd_proposals.bin and data/odd_lines.txt.
+"""Makes data/proposals.bin, a steriliser's proposals as the bench program reads them, with data/lines.txt, what it
+answers at 32 bits, and data/lines53.txt, what it answers at 53; and the same three for the odd table,
+data/odd_proposals.bin, data/odd_lines.txt and data/odd_lines53.txt.
 
 The temperatures are those of a steriliser's plugs, the densities the rough search's (tests/rough_search.py), rounded to
 eight digits so that every machine makes the same file.  The tolerances are a little above the brackets' widths in
-docs/TOLERANCES.md.  The last six are wrong on purpose.  Lines come from the second program, with data/terms.bin.
+docs/TOLERANCES.md at 32 bits.  The last six are wrong on purpose, one of them for 32 bits only.  Lines come from the
+second program, with data/terms.bin.
 
 The odd table (data/odd.txt) is sound and describes no water: from about 68 to 491 kg/m3 its pressures lie below zero,
 and two densities there are in balance and push back when squeezed.  Those two are what 02 f is about.
-`python3 data/propose.py` writes the four files.  Assumes nothing.
+`python3 data/propose.py` writes the six files.  Assumes nothing.
 """
 
 import math
@@ -48,7 +50,7 @@ def plugs():
     T, liquid, vapour = found(121)
     yield (T, rounded(liquid + 0.01), vapour) + TOLERANCES  # a liquid that is too dense: 9
     yield (T, liquid, rounded(vapour * 0.999)) + TOLERANCES  # a vapour that is too thin: 10
-    yield (T, liquid, vapour, 100.0, 1.0)  # the pair itself, but a tolerance below any bracket's width: 9
+    yield (T, liquid, vapour, 100.0, 1.0)  # the pair itself, a tolerance for 53 bits: 9 at 32, 0 at 53
     yield (T, liquid, rounded(vapour * 1000)) + TOLERANCES  # the vapour in g/m3: 7
     yield (math.nan, liquid, vapour) + TOLERANCES  # a gauge that fell out: 3
     yield found(-0.1) + ICE  # 273.05 K, below the triple point, where no such cell is: 3
@@ -69,18 +71,20 @@ def packed(plugs):
     return b"".join(struct.pack(">5d", *plug) for plug in plugs)
 
 
-def answers(table, plugs):
+def answers(width, table, plugs):
     """The second program's lines."""
     with open(os.path.join(HERE, table), "rb") as file:
-        return "".join(line + "\n" for line in lines(file.read(), packed(plugs)))
+        return "".join(line + "\n" for line in lines(width, file.read(), packed(plugs)))
 
 
-FILES = (("proposals.bin", "lines.txt", "terms.bin", plugs),
-         ("odd_proposals.bin", "odd_lines.txt", "odd.bin", odd_plugs))
+FILES = ((32, "proposals.bin", "lines.txt", "terms.bin", plugs),
+         (53, "proposals.bin", "lines53.txt", "terms.bin", plugs),
+         (32, "odd_proposals.bin", "odd_lines.txt", "odd.bin", odd_plugs),
+         (53, "odd_proposals.bin", "odd_lines53.txt", "odd.bin", odd_plugs))
 
 if __name__ == "__main__":
-    for proposals, answered, table, make in FILES:
+    for width, proposals, answered, table, make in FILES:
         with open(os.path.join(HERE, proposals), "wb") as file:
             file.write(packed(make()))
         with open(os.path.join(HERE, answered), "w", newline="\n") as file:
-            file.write(answers(table, make()))
+            file.write(answers(width, table, make()))

@@ -1,15 +1,17 @@
 /* A small panel on the water bench: reads a table and proposals, and says of each plug in plain words what the pair
  * check answers.
  *
- *   panel TERMS PROPOSALS
+ *   panel TERMS PROPOSALS [WIDTH]
  *
  * Built by 'rt staticlib panel' and, on x86-64, 'gcc -Iinclude -o panel examples/panel.c target/staticlib/libpanel.a';
  * 'tests/c examples/panel.c TERMS PROPOSALS' builds and runs it on either kind of machine.
  *
  * TERMS is a file of packed terms; PROPOSALS has five doubles for each plug, most significant byte first: temperature,
- * liquid, vapour, pressure tolerance, Gibbs tolerance, as the bench program takes them.  Ends with status 1 where a file
- * can't be read. */
+ * liquid, vapour, pressure tolerance, Gibbs tolerance, as the bench program takes them.  WIDTH is 32, which stands where
+ * it is missing, or 53; any other gets the answer that the library has for it.  Ends with status 1 where a file can't be
+ * read. */
 #include <stdio.h>
+#include <string.h>
 
 #include "waterbench.h"
 
@@ -17,6 +19,7 @@ enum { LONGEST_TABLE = 576, NUMBERS = 5, BYTES = 8 * NUMBERS };
 
 /* By the pair check's refusals, which have no number but these. */
 static const char *const reasons[] = {
+    [WB_WIDTH] = "the width is neither 32 nor 53",
     [WB_TABLE_LENGTH] = "the table of terms has a length that no table has",
     [WB_BROKEN_TERM] = "a term of the table breaks a rule",
     [WB_TEMPERATURE] = "the temperature is not between 273.16 and 1273 K",
@@ -42,9 +45,25 @@ static double read_double(const uint8_t *bytes)
     return wb_double(bits);
 }
 
-static uint64_t ask(const uint8_t *table, size_t length, struct plug p, uint64_t choice)
+/* What every plug is held to. */
+struct bench {
+    uint64_t width;
+    uint8_t table[LONGEST_TABLE + 1]; /* one byte more, so that a longer file is seen to be longer */
+    size_t length;
+};
+
+static uint64_t ask(const struct bench *b, struct plug p, uint64_t choice)
 {
-    return wb_pair(table, length, p.temperature, p.liquid, p.vapour, p.pressure_tolerance, p.gibbs_tolerance, choice);
+    return wb_pair(b->width, b->table, b->length, p.temperature, p.liquid, p.vapour, p.pressure_tolerance,
+                   p.gibbs_tolerance, choice);
+}
+
+/* Exactly the digits, as the bench program takes them; 0, which is no width, for any other word. */
+static uint64_t width_of(const char *word)
+{
+    if (strcmp(word, "32") == 0)
+        return WB_COARSE;
+    return strcmp(word, "53") == 0 ? WB_FINE : 0;
 }
 
 /* What the answer's ends are, for the numbers that have ends. */
@@ -52,7 +71,7 @@ static void say_ends(uint64_t number, double lower, double upper)
 {
     switch (number) {
     case WB_VAPOUR_PRESSURE:
-        printf(": its pressure is between %.10g and %.10g Pa", lower, upper);
+        printf(": its pressure is between %.17g and %.17g Pa", lower, upper);
         break;
     case WB_PRESSURE_GAP:
         printf(": the gap is between %.6g and %.6g Pa", lower, upper);
@@ -66,16 +85,16 @@ static void say_ends(uint64_t number, double lower, double upper)
     }
 }
 
-static void say(unsigned long count, const uint8_t *table, size_t length, struct plug p)
+static void say(unsigned long count, const struct bench *b, struct plug p)
 {
-    uint64_t number = ask(table, length, p, WB_NUMBER);
-    uint64_t place = ask(table, length, p, WB_PLACE);
-    double lower = wb_double(ask(table, length, p, WB_LOWER));
-    double upper = wb_double(ask(table, length, p, WB_UPPER));
+    uint64_t number = ask(b, p, WB_NUMBER);
+    uint64_t place = ask(b, p, WB_PLACE);
+    double lower = wb_double(ask(b, p, WB_LOWER));
+    double upper = wb_double(ask(b, p, WB_UPPER));
 
     printf("plug %lu (%.6g K, %.8g and %.8g kg/m3): ", count, p.temperature, p.liquid, p.vapour);
     if (number == WB_ACCEPTED) {
-        printf("accepted, with the vapour pressure between %.10g and %.10g Pa\n", lower, upper);
+        printf("accepted, with the vapour pressure between %.17g and %.17g Pa\n", lower, upper);
         return;
     }
     printf("refused, %u, %s", (unsigned)number, reasons[number]);
@@ -87,17 +106,18 @@ static void say(unsigned long count, const uint8_t *table, size_t length, struct
 
 int main(int count, char **words)
 {
-    uint8_t table[LONGEST_TABLE + 1]; /* one byte more, so that a longer file is seen to be longer */
+    struct bench b;
     uint8_t bytes[BYTES];
-    size_t length, got;
-    FILE *terms = count == 3 ? fopen(words[1], "rb") : NULL;
-    FILE *proposals = count == 3 ? fopen(words[2], "rb") : NULL;
+    size_t got;
+    FILE *terms = count == 3 || count == 4 ? fopen(words[1], "rb") : NULL;
+    FILE *proposals = count == 3 || count == 4 ? fopen(words[2], "rb") : NULL;
 
     if (terms == NULL || proposals == NULL) {
-        fprintf(stderr, "usage: panel TERMS PROPOSALS, two files that can be read\n");
+        fprintf(stderr, "usage: panel TERMS PROPOSALS [WIDTH], two files that can be read, and 32 or 53\n");
         return 1;
     }
-    length = fread(table, 1, sizeof table, terms);
+    b.width = count == 4 ? width_of(words[3]) : WB_COARSE;
+    b.length = fread(b.table, 1, sizeof b.table, terms);
     for (unsigned long plug = 1; (got = fread(bytes, 1, BYTES, proposals)) != 0; plug++) {
         struct plug p;
         if (got < BYTES) {
@@ -109,7 +129,7 @@ int main(int count, char **words)
         p.vapour = read_double(bytes + 16);
         p.pressure_tolerance = read_double(bytes + 24);
         p.gibbs_tolerance = read_double(bytes + 32);
-        say(plug, table, length, p);
+        say(plug, &b, p);
     }
     fclose(terms);
     fclose(proposals);

@@ -3,6 +3,12 @@
  * Lend a table of packed terms (nine bytes a term, 9 to 576 bytes) and give the numbers as doubles.  Any bytes and any
  * doubles are answered, NaN and infinities too; nothing has to be checked before a call, and no lent byte is written.
  *
+ * Every call names its width first, the count of bits of the numbers that it works with: 32 (WB_COARSE) or 53 (WB_FINE).
+ * The rules are the same, and at either width the equation's own value lies between the ends; at 53 bits the ends are
+ * about a million times closer together, and a call takes longer.  Take 53 where a gauge is finer than the 32-bit ends:
+ * in cold water the pressure gap of a pair is more than 1,000 Pa wide at 32 bits (docs/TOLERANCES.md).  Where both are
+ * close enough, 32 is the quicker one.
+ *
  * A call hands back ONE value of the answer, by a choice:
  *   WB_NUMBER  0 is accepted, anything else is a refusal's number (below)
  *   WB_PLACE   for a broken term its place in the table, counted from 1; else 0
@@ -17,6 +23,11 @@
 #include <stddef.h>
 #include <stdint.h>
 #include <string.h>
+
+enum wb_width {
+    WB_COARSE = 32,
+    WB_FINE = 53
+};
 
 enum wb_choice {
     WB_NUMBER = 0,
@@ -40,6 +51,7 @@ enum wb_number {
     WB_PRESSURE_GAP = 9,    /* the pressures are too far apart; the ends are the gap's */
     WB_GIBBS_GAP = 10,      /* the Gibbs energies are too far apart; the ends are the gap's */
     WB_STIFFNESS = 11,      /* a phase does not push back when squeezed; the ends are its stiffness */
+    WB_WIDTH = 19,          /* the width is neither 32 nor 53 */
     WB_VAPOUR_PRESSURE = 21 /* the vapour's pressure has no lower end above 0; the ends are its pressure's */
 };
 
@@ -49,21 +61,23 @@ extern "C" {
 
 /* The state sheet: what the equation gives at a temperature (K, from 273 on) and a density (kg/m3).
  * The ends are the pressure's (Pa), then those of the stiffness, pressure by density at fixed temperature
- * (Pa m3/kg); a refused sheet has zeros.  Refusals: 1 to 4 and 8. */
-uint64_t wb_state(const uint8_t *table, size_t table_bytes, double temperature, double density, uint64_t choice);
+ * (Pa m3/kg); a refused sheet has zeros.  Refusals: 19, 1 to 4 and 8, in this order. */
+uint64_t wb_state(uint64_t width, const uint8_t *table, size_t table_bytes, double temperature, double density,
+                  uint64_t choice);
 
 /* The density check: has this density, at this temperature (from 273 K on), the target pressure (Pa) to within the
- * tolerance (Pa), and does it push back?  Accepted: the ends are the pressure's.  Refusals: all but 7, 10 and 21. */
-uint64_t wb_density(const uint8_t *table, size_t table_bytes, double temperature, double density, double target,
-                    double tolerance, uint64_t choice);
+ * tolerance (Pa), and does it push back?  Accepted: the ends are the pressure's.  Refusals: all but 7, 10 and
+ * 21, 19 first. */
+uint64_t wb_density(uint64_t width, const uint8_t *table, size_t table_bytes, double temperature, double density,
+                    double target, double tolerance, uint64_t choice);
 
 /* The pair check: are these two densities a saturation pair at this temperature, to within a pressure tolerance (Pa)
  * and a Gibbs tolerance (J/kg), do both phases push back, and is the vapour's pressure above 0?  Accepted: the ends are
  * the vapour's pressure.
  * Liquid and vapour balance stably only from the triple point on, so T starts at the fraction 27316/100: the double
- * 273.16 is the first that is not refused with 3.  Refusals: all but 5, in the order 1 to 8, 21, 9 to 11. */
-uint64_t wb_pair(const uint8_t *table, size_t table_bytes, double temperature, double liquid, double vapour,
-                 double pressure_tolerance, double gibbs_tolerance, uint64_t choice);
+ * 273.16 is the first that is not refused with 3.  Refusals: all but 5, in the order 19, 1 to 8, 21, 9 to 11. */
+uint64_t wb_pair(uint64_t width, const uint8_t *table, size_t table_bytes, double temperature, double liquid,
+                 double vapour, double pressure_tolerance, double gibbs_tolerance, uint64_t choice);
 
 /* An end as a double. */
 static inline double wb_double(uint64_t bits)

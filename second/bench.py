@@ -1,10 +1,12 @@
-"""The bench program's lines (01, "The bench program").  Assumes the table and the proposals as bytes, of any length."""
+"""The bench program's lines (01, "The bench program"; 02 d).  Assumes the table and the proposals as bytes."""
 
 import struct
 
 from .verdict import pair_check, refused
 
 SIZE = 40  # T, liquid, vapour, pressure tolerance, Gibbs tolerance
+WIDTHS = {"32": 32, "53": 53}  # by the word that names each
+NO_WIDTH = 0
 
 
 def line(count, answer):
@@ -12,11 +14,16 @@ def line(count, answer):
     return "%d %d %d %016x %016x" % (count, answer.number, answer.place, lower, upper)
 
 
-def lines(table, proposals):
-    """One line a proposal; one that is cut short is the last."""
+def width_of(words):
+    """The width that the program's words name, by the first of them: 32 where there is none."""
+    return WIDTHS.get(words[0], NO_WIDTH) if words else 32
+
+
+def lines(width, table, proposals):
+    """One line a proposal; one that is cut short is the last, whatever the width."""
     for count, start in enumerate(range(0, len(proposals), SIZE), 1):
         piece = proposals[start:start + SIZE]
         if len(piece) < SIZE:
             yield line(count, refused(12))
         else:
-            yield line(count, pair_check(table, *struct.unpack(">5Q", piece)))
+            yield line(count, pair_check(width, table, *struct.unpack(">5Q", piece)))

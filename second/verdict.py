@@ -1,6 +1,7 @@
-"""State sheet, density check and pair check, with the table of numbers in order (01, "Inputs" and "Verdicts"; 02 b, f).
+"""State sheet, density check and pair check, with the table of numbers in order (01, "Inputs" and "Verdicts"; 02 b, d
+and f).
 
-Any bytes and any f64s (as their 64 bits) are answered; assumes nothing.
+Any width, any bytes and any f64s (as their 64 bits) are answered; assumes nothing.
 """
 
 from typing import NamedTuple, Tuple
@@ -13,6 +14,7 @@ from .logarithm import logarithm_of_ratio
 from .sheet import exact
 from .term import first_broken, sound_length, terms_of
 
+WIDTHS = (32, 53)  # counts of bits
 TEMPERATURES = ((273, 1, 0), (1273, 1, 0))  # of the state sheet and the density check
 PAIR_TEMPERATURES = ((27316, 100, 0), (1273, 1, 0))  # from the triple point on
 DENSITIES = ((1, 1, -10), (1288, 1, 0))
@@ -55,6 +57,11 @@ def table_refusal(table):
     return (2, place) if place else None
 
 
+def first_refusal(width, table):
+    """What every call asks first: number 19, then 1 and 2."""
+    return table_refusal(table) if width in WIDTHS else (19, 0)
+
+
 def too_high(bracket):
     return below(CEILING, exact(bracket.upper))
 
@@ -70,24 +77,24 @@ def pushes(bracket):
     return bracket.lower[0] > 0
 
 
-def state_sheet(table, T, rho, bits=32):
-    broken = table_refusal(table)
-    if broken:
-        return refused(*broken, ends=4)
+def state_sheet(width, table, T, rho):
+    early = first_refusal(width, table)
+    if early:
+        return refused(*early, ends=4)
     if not within(T, TEMPERATURES):
         return refused(3, ends=4)
     if not within(rho, DENSITIES):
         return refused(4, ends=4)
-    state = phase(bits, terms_of(table), f64.exact(T), f64.exact(rho))
+    state = phase(width, terms_of(table), f64.exact(T), f64.exact(rho))
     if too_high(pressure(state)):
         return refused(8, ends=4)
     return with_ends(0, pressure(state), stiffness(state))
 
 
-def density_check(table, T, rho, target, tolerance, bits=32):
-    broken = table_refusal(table)
-    if broken:
-        return refused(*broken)
+def density_check(width, table, T, rho, target, tolerance):
+    early = first_refusal(width, table)
+    if early:
+        return refused(*early)
     if not within(T, TEMPERATURES):
         return refused(3)
     if not within(rho, DENSITIES):
@@ -96,10 +103,10 @@ def density_check(table, T, rho, target, tolerance, bits=32):
         return refused(5)
     if not within(tolerance, TOLERANCES):
         return refused(6)
-    state = phase(bits, terms_of(table), f64.exact(T), f64.exact(rho))
+    state = phase(width, terms_of(table), f64.exact(T), f64.exact(rho))
     if too_high(pressure(state)):
         return refused(8)
-    gap = pressure(state) - given(bits, *f64.exact(target))
+    gap = pressure(state) - given(width, *f64.exact(target))
     if not gap_passes(gap, tolerance):
         return with_ends(9, gap)
     if not pushes(stiffness(state)):
@@ -107,10 +114,10 @@ def density_check(table, T, rho, target, tolerance, bits=32):
     return with_ends(0, pressure(state))
 
 
-def pair_check(table, T, liquid, vapour, pressure_tolerance, gibbs_tolerance, bits=32):
-    broken = table_refusal(table)
-    if broken:
-        return refused(*broken)
+def pair_check(width, table, T, liquid, vapour, pressure_tolerance, gibbs_tolerance):
+    early = first_refusal(width, table)
+    if early:
+        return refused(*early)
     if not within(T, PAIR_TEMPERATURES):
         return refused(3)
     if not (within(liquid, DENSITIES) and within(vapour, DENSITIES)):
@@ -121,12 +128,12 @@ def pair_check(table, T, liquid, vapour, pressure_tolerance, gibbs_tolerance, bi
         return refused(7)
     T, liquid, vapour = f64.exact(T), f64.exact(liquid), f64.exact(vapour)
     terms = terms_of(table)
-    heavy, light = phase(bits, terms, T, liquid), phase(bits, terms, T, vapour)
+    heavy, light = phase(width, terms, T, liquid), phase(width, terms, T, vapour)
     if too_high(pressure(heavy)) or too_high(pressure(light)):
         return refused(8)
     if not pushes(pressure(light)):
         return with_ends(21, pressure(light))
-    return balance(heavy, light, logarithm_of_ratio(bits, liquid, vapour), pressure_tolerance, gibbs_tolerance)
+    return balance(heavy, light, logarithm_of_ratio(width, liquid, vapour), pressure_tolerance, gibbs_tolerance)
 
 
 def balance(heavy, light, ln_q, pressure_tolerance, gibbs_tolerance):

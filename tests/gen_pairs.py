@@ -1,6 +1,6 @@
-"""Pairs of densities over the whole accepted range, 200 (fields as in stream.py).  Assumes the seed below.
+"""Pairs of densities over the whole accepted range, 200 at each width (fields as in stream.py).  Assumes a seed.
 
-Record: a sound table, T, liquid, vapour, with liquid above 322 above vapour.
+Record: width, a sound table, T, liquid, vapour, with liquid above 322 above vapour.
 Line, 12 words, each two the ends of a bracket as f64s: liquid's pressure, vapour's pressure, liquid's less
 vapour's, Gibbs gap, liquid's stiffness, vapour's stiffness.
 """
@@ -13,6 +13,7 @@ from second.equation import gibbs_gap, phase, pressure, stiffness
 from second.logarithm import logarithm_of_ratio
 from second.term import terms_of
 from second.tests import samples
+from second.verdict import WIDTHS
 from stream import record, run_of
 
 COUNT = 200
@@ -38,14 +39,15 @@ def near_322(random):
 def records():
     random = Random(107)
     for i in range(COUNT):
-        yield record(a_table(random, i), samples.temperature(random), liquid(random), vapour(random))
+        for bits in WIDTHS:
+            yield record(bits, a_table(random, i), samples.temperature(random), liquid(random), vapour(random))
 
 
 def answer(reader):
-    terms = terms_of(reader.table())
+    bits, terms = reader.word(), terms_of(reader.table())
     T, heavy, light = (f64.exact(reader.word()) for _ in range(3))
-    ln_q = logarithm_of_ratio(32, heavy, light)
-    heavy, light = phase(32, terms, T, heavy), phase(32, terms, T, light)
+    ln_q = logarithm_of_ratio(bits, heavy, light)
+    heavy, light = phase(bits, terms, T, heavy), phase(bits, terms, T, light)
     return ends(pressure(heavy), pressure(light), pressure(heavy) - pressure(light),
                 gibbs_gap(heavy, light, ln_q), stiffness(heavy), stiffness(light))
 

@@ -1,34 +1,40 @@
-"""Runs of the bench program with 2,000 and more proposals in all.  Assumes the seed below.
+"""Runs of the bench program with 2,000 and more proposals at each width.  Assumes the seeds below.
 
-Every number from 0 to 12 occurs but 5, which no pair check gives (gen_calls.py has it), and so does 21.
+At each width every number from 0 to 12 occurs but 5, which no pair check gives (gen_calls.py has it), and so does 21.
+Some runs name 32 by its word, the others of that width have no word; words that name no width give 19 and 12.
 
-A run is the file terms.bin (or none) and a standard input as 01 gives them: five f64 a proposal, most significant
-byte first: T, liquid, vapour, pressure tolerance, Gibbs tolerance.  The lines are the bench program's own.
+A run is the program's words, the file terms.bin (or none) and a standard input as 01 gives them: five f64 a proposal,
+most significant byte first: T, liquid, vapour, pressure tolerance, Gibbs tolerance.  The lines are the bench program's
+own.
 The rough search is in floats, so the last digits of some proposals may differ between machines; both sides read
 the same ones.
 """
 
 import struct
-from collections import Counter
+from collections import Counter, defaultdict
+from itertools import chain
 from random import Random
 
 import odd_pairs
 import rough_search
 from gen_pairs import liquid, near_322, vapour
 from second import f64
-from second.bench import lines
+from second.bench import NO_WIDTH, lines, width_of
 from second.equation import gibbs_gap, phase, pressure
 from second.exact import greatest
 from second.logarithm import logarithm_of_ratio
 from second.sheet import exact, negated
 from second.term import terms_of
 from second.tests import samples
-from second.tests.test_verdicts import CEILING_RHO, CEILING_T, CEILING_TABLE, OVER_TABLE
+from second.tests.test_verdicts import CEILINGS
+from second.verdict import WIDTHS
 from stream import Run
 
 W = f64.word
 WIDE = W(1e6)
 SATURATION, EDGES, TABLES, DAMAGED, ODD, PULLED = 360, 80, 120, 50, 400, 80
+NO_WIDTHS = ("0", "31", "33", "52", "54", "4294967328", "18446744073709551615", "18446744073709551648", "032", "+32",
+             "-32", "32 ", " 53", "3 2", "53.0", "", "x", "5", "3", "533", "5353", "3" * 300, "\uff15\uff13", "\udcff")
 
 
 def along_the_line(count):
@@ -41,8 +47,8 @@ def along_the_line(count):
 
 
 def saturation():
-    """One pair after the other, with generous, workable and hopeless tolerances in turn."""
-    tolerances = [(1e5, 100.0), (2000.0, 1.0), (100.0, 100.0), (1e6, 1e-3), (0.0, 0.0)]
+    """One pair after the other, with tolerances in turn that are generous, workable at 32 bits, at 53, and hopeless."""
+    tolerances = [(1e5, 100.0), (2000.0, 1.0), (100.0, 100.0), (0.01, 1e-4), (1e6, 1e-3), (0.0, 0.0)]
     for i, state in enumerate(along_the_line(SATURATION)):
         yield state + [W(x) for x in tolerances[i % len(tolerances)]]
 
@@ -67,15 +73,15 @@ def nudged(random, word):
     return W(rho * (1 + random.choice([1, -1]) * 10.0 ** random.uniform(-12, -4)))
 
 
-def edges(random):
+def edges(random, width):
     """Found and perturbed pairs with tolerances that just pass and, one f64 less, just do not."""
     terms = terms_of(samples.table5())
     for T, heavy, light in along_the_line(EDGES):
         for proposal in ([T, heavy, light], [T, nudged(random, heavy), light]):
             a, b, c = map(f64.exact, proposal)
-            one, two = phase(32, terms, a, b), phase(32, terms, a, c)
+            one, two = phase(width, terms, a, b), phase(width, terms, a, c)
             p = smallest_tolerance(pressure(one) - pressure(two))
-            g = smallest_tolerance(gibbs_gap(one, two, logarithm_of_ratio(32, b, c)))
+            g = smallest_tolerance(gibbs_gap(one, two, logarithm_of_ratio(width, b, c)))
             yield from (proposal + pair for pair in ([p, g], [samples.under(p), g], [p, samples.under(g)]))
 
 
@@ -94,62 +100,94 @@ def odd(random, proposal):
     return proposal
 
 
-def run(table, proposals, tail=b""):
+def run(words, table, proposals, tail=b""):
     """A run whose expected lines are the second program's."""
     stdin = b"".join(struct.pack(">5Q", *proposal) for proposal in proposals) + tail
-    return Run({} if table is None else {"terms.bin": table}, stdin, list(lines(table or b"", stdin)))
+    expected = list(lines(width_of(words), table or b"", stdin))
+    return Run({} if table is None else {"terms.bin": table}, stdin, expected, words)
 
 
 def number_of(line):
     return int(line.split()[1])
 
 
-def pulled(random):
+def pulled(random, words):
     """Random odd tables (02 f): 21 occurs, and 0, 9, 10 and 11 do, both answered and hidden behind 21."""
-    answered, hidden = Counter(), Counter()
+    width, answered, hidden = width_of(words), Counter(), Counter()
     for _ in range(PULLED):
         table = odd_pairs.table(random)
         proposals = [odd_pairs.proposal(random, table) for _ in range(5)]
-        one = run(table, proposals)
+        one = run(words, table, proposals)
         numbers = list(map(number_of, one.lines))
         answered.update(numbers)
-        hidden.update(odd_pairs.behind(table, *p) for p, number in zip(proposals, numbers) if number == 21)
+        hidden.update(odd_pairs.behind(width, table, *p) for p, number in zip(proposals, numbers) if number == 21)
         yield one
     assert answered[21] >= 50 and all(min(answered[n], hidden[n]) >= 10 for n in (0, 9, 10, 11)), (answered, hidden)
 
 
-def all_runs():
-    random = Random(109)
+def by_water(random, words):
+    """Table 5: the plugs, and pairs along the line and at the edges of tolerances and ranges."""
     water = samples.table5()
-    yield run(water, [], samples.sterilisers())
-    yield run(samples.odd_table(), [], samples.data("odd_proposals.bin"))
-    yield from pulled(Random(110))
-    yield run(water, saturation())
-    yield run(water, cold())
-    yield run(water, edges(random))
+    yield run(words, water, [], samples.sterilisers())
+    yield run(words, water, saturation())
+    yield run(words, water, cold())
+    yield run(words, water, edges(random, width_of(words)))
+    yield run(words, water, [odd(random, anywhere(random)) for _ in range(ODD)])
+
+
+def by_other_tables(random, words):
+    """Random tables, sound and damaged, the odd table, and those at the ceiling."""
     for _ in range(TABLES):
         kind = random.choice([samples.term, samples.gentle_term])
         table = samples.sound_table(random, random.choice([1, 3, 12, 64]), kind)
-        yield run(table, [make(random) for make in (close, close, close, anywhere, anywhere)])
+        yield run(words, table, [make(random) for make in (close, close, close, anywhere, anywhere)])
     for _ in range(DAMAGED):
         table = samples.damaged_table(random, random.randint(1, 4))
-        yield run(table, [anywhere(random), odd(random, anywhere(random)), close(random)])
-    yield run(water, [odd(random, anywhere(random)) for _ in range(ODD)])
-    ceiling = [[W(CEILING_T), W(CEILING_RHO), W(1.0), WIDE, WIDE]]
-    yield run(CEILING_TABLE, ceiling)
-    yield run(OVER_TABLE, ceiling)
+        yield run(words, table, [anywhere(random), odd(random, anywhere(random)), close(random)])
+    yield run(words, samples.odd_table(), [], samples.data("odd_proposals.bin"))
+    for ceiling in CEILINGS.values():
+        for table in ceiling.tables():
+            yield run(words, table, [[ceiling.T, ceiling.rho, W(1.0), WIDE, WIDE]])
+
+
+def by_bytes(random, words):
+    """No table and tables of a wrong length; proposals cut at every byte, after none, one or two whole ones."""
+    water = samples.table5()
     for table in (None, b"", water[:-1], water + b"\0", water[:9] * 65, bytes(10), bytes(1000), bytes(100000)):
-        yield run(table, [anywhere(random), odd(random, anywhere(random))], random.choice([b"", b"\1"]))
-    for length in range(40):  # cut at every byte, after none, one or two whole proposals
+        yield run(words, table, [anywhere(random), odd(random, anywhere(random))], random.choice([b"", b"\1"]))
+    for length in range(40):
         tail = random.getrandbits(320).to_bytes(40, "big")[:length]
         table = random.choice([water, None, bytes(9)])
-        yield run(table, [odd(random, anywhere(random)) for _ in range(length % 3)], tail)
+        yield run(words, table, [odd(random, anywhere(random)) for _ in range(length % 3)], tail)
+
+
+def all_runs(words):
+    """All that is run at one width."""
+    random = Random(109 * width_of(words))
+    yield from by_water(random, words)
+    yield from by_other_tables(random, words)
+    yield from by_bytes(random, words)
+    yield from pulled(Random(110 * width_of(words)), words)
+
+
+def by_words():
+    """The word 32, words that name no width, and words behind the first."""
+    random, water = Random(113), samples.table5()
+    yield run(("32",), water, [], samples.sterilisers())
+    yield from by_bytes(random, ("32",))
+    for word in NO_WIDTHS:
+        for table in (water, None):
+            yield run((word,), table, [], samples.sterilisers()[:80] + bytes(random.randrange(40)))
+    for words in (("53", "x"), ("32", "53"), ("x", "32"), ("", "53")):
+        yield run(words, water, [], samples.sterilisers())
 
 
 def runs():
-    count, numbers = 0, set()
-    for one in all_runs():
-        count += len(one.lines)
-        numbers.update(map(number_of, one.lines))
+    count, numbers = Counter(), defaultdict(set)
+    for one in chain(all_runs(()), all_runs(("53",)), by_words()):
+        count[width_of(one.words)] += len(one.lines)
+        numbers[width_of(one.words)].update(map(number_of, one.lines))
         yield one
-    assert count >= 2000 and numbers == set(range(13)) - {5} | {21}, (count, numbers)
+    for width in WIDTHS:
+        assert count[width] >= 2000 and numbers[width] == set(range(13)) - {5} | {21}, (count, numbers)
+    assert numbers[NO_WIDTH] == {12, 19}, numbers

@@ -1,6 +1,6 @@
-"""States over the whole accepted range, 500 (fields as in stream.py).  Assumes the seed below.
+"""States over the whole accepted range, 500 at each width (fields as in stream.py).  Assumes the seed below.
 
-Record: a sound table, T, density.
+Record: width, a sound table, T, density.
 Line, 4 words: pressure's two ends and stiffness' two ends, as f64s; pressures over the ceiling too.
 """
 
@@ -10,6 +10,7 @@ from second import f64
 from second.equation import phase, pressure, stiffness
 from second.term import terms_of
 from second.tests import samples
+from second.verdict import WIDTHS
 from stream import record, run_of
 
 COUNT = 500
@@ -23,11 +24,16 @@ def a_table(random, i):
     return samples.sound_table(random, random.choice([1, 2, 8, 64]), random.choice([samples.term, samples.gentle_term]))
 
 
+def state(random, i):
+    """T and density: the corners first."""
+    return CORNERS[i] if i < len(CORNERS) else (samples.temperature(random), samples.density(random))
+
+
 def records():
     random = Random(106)
     for i in range(COUNT):
-        T, rho = CORNERS[i // 2] if i // 2 < len(CORNERS) else (samples.temperature(random), samples.density(random))
-        yield record(a_table(random, i), T, rho)
+        for bits in WIDTHS:
+            yield record(bits, a_table(random, i), *state(random, i // 2))
 
 
 def ends(*brackets):
@@ -35,9 +41,9 @@ def ends(*brackets):
 
 
 def answer(reader):
-    terms, T, rho = terms_of(reader.table()), reader.word(), reader.word()
-    state = phase(32, terms, f64.exact(T), f64.exact(rho))
-    return ends(pressure(state), stiffness(state))
+    bits, terms, T, rho = reader.word(), terms_of(reader.table()), reader.word(), reader.word()
+    found = phase(bits, terms, f64.exact(T), f64.exact(rho))
+    return ends(pressure(found), stiffness(found))
 
 
 def runs():

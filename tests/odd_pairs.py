@@ -53,8 +53,9 @@ def proposal(random, table):
     return [samples.between(random, 273.16, 600)] + densities(random, table) + tolerances(random)
 
 
-def behind(table, T, liquid, vapour, pressure_tolerance, gibbs_tolerance):
+def behind(width, table, T, liquid, vapour, pressure_tolerance, gibbs_tolerance):
     """The number that a pair would get if 21 were not asked.  Assumes that no check before it fails."""
     T, liquid, vapour = map(f64.exact, (T, liquid, vapour))
-    heavy, light = (phase(32, terms_of(table), T, rho) for rho in (liquid, vapour))
-    return balance(heavy, light, logarithm_of_ratio(32, liquid, vapour), pressure_tolerance, gibbs_tolerance).number
+    heavy, light = (phase(width, terms_of(table), T, rho) for rho in (liquid, vapour))
+    ln_q = logarithm_of_ratio(width, liquid, vapour)
+    return balance(heavy, light, ln_q, pressure_tolerance, gibbs_tolerance).number

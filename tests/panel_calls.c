@@ -39,15 +39,16 @@ static uint64_t word(void)
     return w;
 }
 
-static uint64_t call(uint64_t function, const uint8_t *table, size_t length, const double *x, uint64_t choice)
+static uint64_t call(uint64_t width, uint64_t function, const uint8_t *table, size_t length, const double *x,
+                     uint64_t choice)
 {
     switch (function) {
     case 0:
-        return wb_state(table, length, x[0], x[1], choice);
+        return wb_state(width, table, length, x[0], x[1], choice);
     case 1:
-        return wb_density(table, length, x[0], x[1], x[2], x[3], choice);
+        return wb_density(width, table, length, x[0], x[1], x[2], x[3], choice);
     case 2:
-        return wb_pair(table, length, x[0], x[1], x[2], x[3], x[4], choice);
+        return wb_pair(width, table, length, x[0], x[1], x[2], x[3], x[4], choice);
     }
     broken("no such function");
     return 0;
@@ -55,10 +56,11 @@ static uint64_t call(uint64_t function, const uint8_t *table, size_t length, con
 
 int main(void)
 {
-    uint64_t function;
-    while (read_word(&function)) {
+    uint64_t width;
+    while (read_word(&width)) {
         uint8_t table[LONGEST_TABLE + 7];
         double x[NUMBERS];
+        uint64_t function = word();
         uint64_t length = word();
         if (length > LONGEST_TABLE)
             broken("a table is too long");
@@ -68,7 +70,7 @@ int main(void)
         for (int i = 0; i < NUMBERS; i++)
             x[i] = wb_double(word());
         for (size_t i = 0; i < sizeof choices / sizeof *choices; i++)
-            printf("%s%016" PRIx64, i ? " " : "", call(function, table, length, x, choices[i]));
+            printf("%s%016" PRIx64, i ? " " : "", call(width, function, table, length, x, choices[i]));
         printf("\n");
     }
     return 0;

@@ -2,8 +2,9 @@
  *
  *   panel_twice CALLS DEEP [SEED]
  *
- * Every call has random bytes as its table and random bit patterns as its doubles.  Of every DEEP calls one is made to
- * get as far as the equation: a sound table of one to three terms and numbers in their ranges; 0 makes none of these.
+ * Every call has random bytes as its table and random bit patterns as its doubles; its width is mostly 32 or 53, and at
+ * times any number.  Of every DEEP calls one is made to get as far as the equation: 32 or 53, a sound table of one to
+ * three terms and numbers in their ranges; 0 makes none of these.
  * Ends with a line 'N passed, M failed'. */
 #include <inttypes.h>
 #include <stdio.h>
@@ -33,8 +34,13 @@ struct call {
     uint8_t table[LONGEST_TABLE];
     size_t length;
     double x[NUMBERS];
-    uint64_t function, choice;
+    uint64_t width, function, choice;
 };
+
+static uint64_t sound_width(void)
+{
+    return next() % 2 ? 32 : 53;
+}
 
 static void any_call(struct call *c)
 {
@@ -44,6 +50,7 @@ static void any_call(struct call *c)
         c->table[i] = (uint8_t)next();
     for (int i = 0; i < NUMBERS; i++)
         c->x[i] = wb_double(next());
+    c->width = next() % 8 ? sound_width() : next() >> c->length % 64;
     c->function = next() % 3;
     c->choice = next() % 8 ? next() % 7 : next();
 }
@@ -63,6 +70,7 @@ static void sound_term(uint8_t *bytes)
 static void deep_call(struct call *c)
 {
     any_call(c);
+    c->width = sound_width();
     c->length = TERM * (1 + next() % 3);
     for (size_t i = 0; i < c->length; i += TERM)
         sound_term(c->table + i);
@@ -78,11 +86,11 @@ static uint64_t made(const struct call *c)
     const double *x = c->x;
     switch (c->function) {
     case 0:
-        return wb_state(c->table, c->length, x[0], x[1], c->choice);
+        return wb_state(c->width, c->table, c->length, x[0], x[1], c->choice);
     case 1:
-        return wb_density(c->table, c->length, x[0], x[1], x[2], x[3], c->choice);
+        return wb_density(c->width, c->table, c->length, x[0], x[1], x[2], x[3], c->choice);
     default:
-        return wb_pair(c->table, c->length, x[0], x[1], x[2], x[3], x[4], c->choice);
+        return wb_pair(c->width, c->table, c->length, x[0], x[1], x[2], x[3], x[4], c->choice);
     }
 }
 

@@ -1,5 +1,5 @@
 #!/usr/bin/env python3
-"""Runs the bench program on input that comes in pieces, and on a long list.  Ends with a line that counts.
+"""Runs the bench program at each width on input in pieces, and on a long list.  Ends with a line that counts.
 
 The same bytes in one piece, byte by byte and in random pieces give the same lines; no input gives no line; a list of
 100,000 proposals is answered to its last line with no more memory than a list of one.  What the lines say is
@@ -17,6 +17,7 @@ import tempfile
 HERE = os.path.dirname(os.path.abspath(__file__))
 BENCH = [os.path.join(HERE, "run"), "bench"]
 TERM = bytes.fromhex("D5F0006E9B73B18500")
+WIDTHS = ("32", "53")
 LONG = 100000
 ROOM = 4096  # kilobytes that a long list may take beyond a short one
 
@@ -25,12 +26,13 @@ def proposal(*numbers):
     return struct.pack(">5d", *numbers)
 
 
-def output_of(pieces):
+def output_of(width, pieces):
     """What the program writes, and the most memory that it and all runs before it took."""
     with tempfile.TemporaryDirectory() as folder:
         with open(os.path.join(folder, "terms.bin"), "wb") as file:
             file.write(TERM)
-        running = subprocess.Popen(BENCH, cwd=folder, stdin=subprocess.PIPE, stdout=subprocess.PIPE, bufsize=0)
+        running = subprocess.Popen(BENCH + [width], cwd=folder, stdin=subprocess.PIPE, stdout=subprocess.PIPE,
+                                   bufsize=0)
         if len(pieces) > 1:  # few bytes: the output waits in its pipe
             for piece in pieces:
                 running.stdin.write(piece)
@@ -46,17 +48,17 @@ def cuts(data, chance):
     return [data[a:b] for a, b in zip([0] + places, places + [len(data)])]
 
 
-def results():
+def results(width):
     data = proposal(272, 1000, 1, 0, 0) + proposal(300, 322, 1, 0, 0) + proposal(300, 1000, 1, 0, 0) + b"\x40\x72\xc0"
-    whole, small = output_of([data])
+    whole, small = output_of(width, [data])
     yield "four lines", whole.count("\n") == 4
-    yield "byte by byte", output_of([data[i:i + 1] for i in range(len(data))])[0] == whole
+    yield "byte by byte", output_of(width, [data[i:i + 1] for i in range(len(data))])[0] == whole
     chance = random.Random(1)
     for _ in range(10):
-        yield "in pieces", output_of(cuts(data, chance))[0] == whole
-    yield "no input", output_of([b""])[0] == ""
-    yield "39 bytes", output_of([data[:39]])[0].split(" ")[:2] == ["1", "12"]
-    text, large = output_of([proposal(272, 1000, 1, 0, 0) * LONG])
+        yield "in pieces", output_of(width, cuts(data, chance))[0] == whole
+    yield "no input", output_of(width, [b""])[0] == ""
+    yield "39 bytes", output_of(width, [data[:39]])[0].split(" ")[:2] == ["1", "12"]
+    text, large = output_of(width, [proposal(272, 1000, 1, 0, 0) * LONG])
     lines = text.split("\n")
     yield "a long list", len(lines) == LONG + 1 and lines[-2].split(" ")[0] == str(LONG)
     yield "in the same memory", large - small < ROOM
@@ -64,10 +66,10 @@ def results():
 
 def main():
     passed = failed = 0
-    for what, good in results():
+    for width, (what, good) in ((width, result) for width in WIDTHS for result in results(width)):
         passed, failed = passed + good, failed + (not good)
         if not good:
-            print("pieces: %s" % what)
+            print("pieces at %s bits: %s" % (width, what))
     print("%d passed, %d failed" % (passed, failed))
     return 1 if failed else 0
 

@@ -5,12 +5,13 @@ Every field of a record is one word of eight bytes, most significant first:
   a sheet number   three words: 1 for negative else 0; |m|; e + 262144.  Zero is 0 0 0.
   a bracket        its lower end, then its upper end: six words
   a table          its length in bytes, then the bytes, then zero bytes up to a multiple of eight
-There is no count in front and no mark at the end: records follow each other until the input ends.
+A record that depends on the width has it as its first word.  There is no count in front and no mark at the end:
+records follow each other until the input ends.
 Every record is answered by one line: words of 16 lower-case hexadecimal digits, one space between, a line feed.
 """
 
 import struct
-from typing import Dict, List, NamedTuple
+from typing import Dict, List, NamedTuple, Tuple
 
 from second.bracket import Bracket
 
@@ -18,10 +19,12 @@ BIAS = 262144
 
 
 class Run(NamedTuple):
-    """One run of a library's program: files of its folder, its standard input, and the lines that it should write."""
+    """One run of a library's program: files of its folder, its standard input, the lines that it should write, and the
+    words behind its command."""
     files: Dict[str, bytes]
     stdin: bytes
     lines: List[str]
+    words: Tuple[str, ...] = ()
 
 
 class Reader:
@@ -46,7 +49,7 @@ class Reader:
         negative, m, e = self.word(), self.word(), self.word()
         return (-m if negative else m, e - BIAS) if m else (0, 0)
 
-    def bracket(self, bits=32):
+    def bracket(self, bits):
         return Bracket(bits, self.sheet(), self.sheet())
 
     def table(self):
@@ -54,14 +57,14 @@ class Reader:
         return self.take(length + -length % 8)[:length]
 
 
-def words_of(s):
+def words_of(bits, s):
     m, e = s
-    assert m == 0 or abs(m).bit_length() == 32
+    assert m == 0 or abs(m).bit_length() == bits
     return [int(m < 0), abs(m), e + BIAS] if m else [0, 0, 0]
 
 
 def words_of_bracket(b):
-    return words_of(b.lower) + words_of(b.upper)
+    return words_of(b.bits, b.lower) + words_of(b.bits, b.upper)
 
 
 def record(*fields):

@@ -1,11 +1,13 @@
 #!/usr/bin/env python3
-"""Makes the table of docs/TOLERANCES.md and the picture docs/tolerances.svg: how wide the gaps' brackets are.
+"""Makes the table of docs/TOLERANCES.md and the picture docs/tolerances.svg: how wide the gaps' brackets are, at each
+count of bits.
 
   tests/tolerances.py               by the second program
   tests/tolerances.py COMMAND...    by another program that answers proposals, such as: tests/run bench
 
-At each temperature the rough search's pair of Table 5 is proposed twice, with no tolerance at all, and with none for the
-Gibbs gap only: the refusals 9 and 10 carry the brackets of the two gaps.  Assumes data/terms.bin and Python 3.9.
+The width is the command's last word.  At each temperature the rough search's pair of Table 5 is proposed twice, with no
+tolerance at all, and with none for the Gibbs gap only: the refusals 9 and 10 carry the brackets of the two gaps.
+Assumes data/terms.bin and Python 3.9.
 """
 
 import math
@@ -24,8 +26,11 @@ import rough_search  # noqa: E402
 PAGE, PICTURE = os.path.join(ROOT, "docs", "TOLERANCES.md"), os.path.join(ROOT, "docs", "tolerances.svg")
 OPENS, CLOSES = "<!-- table: tests/tolerances.py writes it -->\n", "<!-- end of the table -->\n"
 FIRST, LAST, STEPS = 273.16, 645.0, 240  # of the picture
-LISTED = [273.16, 280, 290, 298.15, 310, 320, 340, 360, 373.15, 394.15, 407.15, 420, 440, 460, 480, 500, 520, 540, 560, 580,
-          600, 620, 630, 640, 645]
+LISTED = [273.16, 280, 290, 298.15, 300, 310, 320, 340, 360, 373.15, 394.15, 407.15, 420, 440, 460, 480, 500, 520, 540,
+          560, 580, 600, 620, 630, 640, 645]
+WIDTHS = (32, 53)
+COLD = 300  # K: here the fine width has to be this many times narrower
+NARROWER = 10 ** 6
 
 
 # the program's answers
@@ -35,15 +40,15 @@ def proposals(T):
     return struct.pack(">5d", T, liquid, vapour, 0, 0) + struct.pack(">5d", T, liquid, vapour, 1e6, 0)
 
 
-def answered(command, temperatures):
+def answered(command, bits, temperatures):
     """The brackets of pressure gap and Gibbs gap at each temperature, as pairs of floats."""
     with open(os.path.join(ROOT, "data", "terms.bin"), "rb") as file:
         table = file.read()
     with tempfile.TemporaryDirectory() as folder:
         with open(os.path.join(folder, "terms.bin"), "wb") as file:
             file.write(table)
-        done = subprocess.run(command, cwd=folder, input=b"".join(map(proposals, temperatures)), stdout=subprocess.PIPE,
-                              check=True)
+        done = subprocess.run(command + [str(bits)], cwd=folder, input=b"".join(map(proposals, temperatures)),
+                              stdout=subprocess.PIPE, check=True)
     lines = [line.split() for line in done.stdout.decode("ascii").splitlines()]
     assert [line[1] for line in lines] == ["9", "10"] * len(temperatures), "a gap did not come back"
     ends = [tuple(struct.unpack(">d", bytes.fromhex(word))[0] for word in line[3:]) for line in lines]
@@ -64,21 +69,44 @@ def least_tolerance(bracket):
 # the table
 
 def short(x):
-    """Three digits, rounded up, so that what is printed is enough."""
-    step = 10.0 ** (math.floor(math.log10(x)) - 2)
-    digits = math.ceil(x / step * (1 - 1e-12))
-    places = max(0, 2 - math.floor(math.log10(x)))
-    return "{:,.{}f}".format(digits * step, places)
+    """Three digits, rounded up, so that what is printed is enough; what is small by its power of ten."""
+    power = math.floor(math.log10(x))
+    digits = math.ceil(x / 10.0 ** (power - 2) * (1 - 1e-12))
+    if digits == 1000:  # rounded up to the next power of ten
+        digits, power = 100, power + 1
+    if power < -2:
+        return "%.2fe%d" % (digits / 100, power)
+    return "{:,.{}f}".format(digits * 10.0 ** (power - 2), max(0, 2 - power))
 
 
-def rows(temperatures, brackets):
-    yield "| T, K | °C | vapour pressure, about, Pa | pressure gap: width, Pa | passes from, Pa | Gibbs gap: width, J/kg | passes from, J/kg |"
-    yield "|---|---|---|---|---|---|---|"
-    for T, (pressure, gibbs) in zip(temperatures, brackets):
+def row(*cells):
+    return "| %s |" % " | ".join(cells)
+
+
+def numbers(bracket):
+    """A gap's two columns at one count of bits."""
+    return short(width(bracket)), short(least_tolerance(bracket))
+
+
+def rows(coarse, fine):
+    """One row a temperature, from the brackets of both gaps at 32 bits and at 53."""
+    yield row("T, K", "°C", "vapour pressure, about, Pa",
+              "pressure gap at 32 bits: width, Pa", "passes from, Pa", "at 53 bits: width, Pa", "passes from, Pa",
+              "Gibbs gap at 32 bits: width, J/kg", "passes from, J/kg", "at 53 bits: width, J/kg", "passes from, J/kg")
+    yield "|" + "---|" * 11
+    for T, (p32, g32), (p53, g53) in zip(LISTED, coarse, fine):
+        assert least_tolerance(p53) < least_tolerance(p32) and least_tolerance(g53) < least_tolerance(g32), T
         vapour = rough_search.pair(T)[1]
-        yield "| %g | %g | %s | %s | %s | %s | %s |" % (
-            T, round(T - 273.15, 2), "{:,.0f}".format(rough_search.pressure(T, vapour)),
-            short(width(pressure)), short(least_tolerance(pressure)), short(width(gibbs)), short(least_tolerance(gibbs)))
+        yield row("%g" % T, "%g" % round(T - 273.15, 2), "{:,.0f}".format(rough_search.pressure(T, vapour)),
+                  *numbers(p32), *numbers(p53), *numbers(g32), *numbers(g53))
+
+
+def narrower(coarse, fine):
+    """The sentence on cold water, its number rounded down."""
+    place = LISTED.index(COLD)
+    times = math.floor(width(coarse[place][0]) / width(fine[place][0]) / 10 ** 4) * 10 ** 4
+    assert times > NARROWER, times
+    return "At {} K the pressure gap's bracket is more than {:,} times narrower at 53 bits.".format(COLD, times)
 
 
 def write_table(lines):
@@ -90,14 +118,16 @@ def write_table(lines):
         file.write(before + OPENS + "\n" + "\n".join(lines) + "\n\n" + CLOSES + after)
 
 
-# the picture: two panels, temperature to the right, width upward in decades
+# the picture: two panels, temperature to the right, width upward in decades, a curve a count of bits
 
-LEFT, WIDE, HIGH, BETWEEN, TOP = 80, 600, 200, 70, 40
+LEFT, WIDE, HIGH, BETWEEN, TOP = 80, 600, 260, 70, 40
 
 
 class Panel:
-    def __init__(self, top, title, values):
-        self.top, self.title, self.values = top, title, values
+    def __init__(self, top, title, curves):
+        """The curves are lists of values by the count of bits."""
+        self.top, self.title, self.curves = top, title, curves
+        values = [value for curve in curves.values() for value in curve]
         self.low = math.floor(math.log10(min(values)))
         self.high = math.ceil(math.log10(max(values)))
 
@@ -107,31 +137,49 @@ class Panel:
     def y(self, value):
         return self.top + HIGH * (self.high - math.log10(value)) / (self.high - self.low)
 
-    def lines(self, temperatures):
-        yield '<text x="%d" y="%d" class="title">%s</text>' % (LEFT, self.top - 12, self.title)
+    def grid(self):
+        bottom = self.top + HIGH
         for decade in range(self.low, self.high + 1):
             y = self.y(10.0 ** decade)
             yield '<line x1="%d" y1="%.1f" x2="%d" y2="%.1f" class="grid"/>' % (LEFT, y, LEFT + WIDE, y)
             yield '<text x="%d" y="%.1f" text-anchor="end">%g</text>' % (LEFT - 8, y + 4, 10.0 ** decade)
         for T in range(300, 650, 50):
-            yield '<line x1="%.1f" y1="%d" x2="%.1f" y2="%d" class="grid"/>' % (self.x(T), self.top, self.x(T), self.top + HIGH)
-            yield '<text x="%.1f" y="%d" text-anchor="middle">%d</text>' % (self.x(T), self.top + HIGH + 16, T)
-        yield '<text x="%d" y="%d" text-anchor="end">K</text>' % (LEFT + WIDE, self.top + HIGH + 16)
-        points = " ".join("%.1f,%.1f" % (self.x(T), self.y(value)) for T, value in zip(temperatures, self.values))
-        yield '<polyline points="%s"/>' % points
+            yield '<line x1="%.1f" y1="%d" x2="%.1f" y2="%d" class="grid"/>' % (self.x(T), self.top, self.x(T), bottom)
+            yield '<text x="%.1f" y="%d" text-anchor="middle">%d</text>' % (self.x(T), bottom + 16, T)
+        yield '<text x="%d" y="%d" text-anchor="end">K</text>' % (LEFT + WIDE, bottom + 16)
+
+    def curve(self, bits, temperatures):
+        values = self.curves[bits]
+        points = " ".join("%.1f,%.1f" % (self.x(T), self.y(value)) for T, value in zip(temperatures, values))
+        yield '<polyline points="%s" class="bits%d"/>' % (points, bits)
+        yield '<text x="%.1f" y="%.1f">%d bits</text>' % (self.x(275), self.y(values[0]) - 10, bits)
+
+    def lines(self, temperatures):
+        yield '<text x="%d" y="%d" class="title">%s</text>' % (LEFT, self.top - 12, self.title)
+        yield from self.grid()
+        for bits in WIDTHS:
+            yield from self.curve(bits, temperatures)
+
+
+def panels(brackets):
+    """Pressure gap above, Gibbs gap below, from the brackets by the count of bits."""
+    titles = ("Width of the pressure gap's bracket, Pa", "Width of the Gibbs gap's bracket, J/kg")
+    for place, title in enumerate(titles):
+        curves = {bits: [width(pair[place]) for pair in brackets[bits]] for bits in WIDTHS}
+        yield Panel(TOP + place * (HIGH + BETWEEN), title, curves)
 
 
 def write_picture(temperatures, brackets):
-    panels = [Panel(TOP, "Width of the pressure gap's bracket, Pa", [width(p) for p, _ in brackets]),
-              Panel(TOP + HIGH + BETWEEN, "Width of the Gibbs gap's bracket, J/kg", [width(g) for _, g in brackets])]
     total = (LEFT + WIDE + 30, TOP + 2 * HIGH + BETWEEN + 40)
     with open(PICTURE, "w") as file:
-        file.write('<svg xmlns="http://www.w3.org/2000/svg" width="%d" height="%d" viewBox="0 0 %d %d">\n' % (total * 2))
+        size = 'width="%d" height="%d" viewBox="0 0 %d %d"' % (total * 2)
+        file.write('<svg xmlns="http://www.w3.org/2000/svg" %s>\n' % size)
         file.write("<title>Widths of the gaps' brackets at saturation pairs of Table 5</title>\n")
-        file.write("<style>text { font: 12px sans-serif; fill: #222 } .title { font-size: 14px } .grid { stroke: #ccc } "
-                   "polyline { fill: none; stroke: #06a; stroke-width: 1.5 }</style>\n")
+        file.write("<style>text { font: 12px sans-serif; fill: #222 } .title { font-size: 14px } "
+                   ".grid { stroke: #ccc } polyline { fill: none; stroke-width: 1.5 } "
+                   ".bits32 { stroke: #06a } .bits53 { stroke: #a40 }</style>\n")
         file.write('<rect width="100%" height="100%" fill="#fff"/>\n')
-        for panel in panels:
+        for panel in panels(brackets):
             file.writelines(line + "\n" for line in panel.lines(temperatures))
         file.write("</svg>\n")
 
@@ -139,9 +187,10 @@ def write_picture(temperatures, brackets):
 def main(arguments):
     command = arguments or [sys.executable, os.path.join(ROOT, "second")]
     command = [os.path.join(ROOT, word) if os.path.exists(os.path.join(ROOT, word)) else word for word in command]
-    write_table(rows(LISTED, answered(command, LISTED)))
+    both = [answered(command, bits, LISTED) for bits in WIDTHS]
+    write_table([*rows(*both), "", narrower(*both)])
     temperatures = [FIRST + (LAST - FIRST) * i / STEPS for i in range(STEPS + 1)]
-    write_picture(temperatures, answered(command, temperatures))
+    write_picture(temperatures, {bits: answered(command, bits, temperatures) for bits in WIDTHS})
 
 
 if __name__ == "__main__":

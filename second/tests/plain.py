@@ -1,109 +1,111 @@
-"""The step rules once more, as plainly as can be: brackets are pairs of Fractions, at 32 bits.  Far too slow for use.
+"""The step rules once more, as plainly as can be: brackets are pairs of Fractions.  Far too slow for use.
 
 Every operation takes all four results of the ends; down and up are floor and ceiling at the value's last place.
-The tests hold the second program's whole numbers to this.
+The tests hold the second program's whole numbers to this.  Plain(bits) has the rules at that count of bits.
 """
 
 from fractions import Fraction
 from functools import lru_cache
 from math import ceil, floor
 
-BITS = 32
 
+class Plain:
+    def __init__(self, bits):
+        self.bits = bits
+        self.exponential = lru_cache(maxsize=16)(self.exponential_of_minus)
+        self.R = self.given(Fraction("461.51805"))
 
-def last_place(x):
-    """The unit of the last of 32 digits of a number that is not zero."""
-    x = abs(x)
-    e = x.numerator.bit_length() - x.denominator.bit_length() - BITS
-    unit = Fraction(2) ** e
-    return unit if x < unit * 2 ** BITS else 2 * unit
+    # numbers and brackets
 
+    def last_place(self, x):
+        """The unit of the last digit of a number that is not zero."""
+        x = abs(x)
+        e = x.numerator.bit_length() - x.denominator.bit_length() - self.bits
+        unit = Fraction(2) ** e
+        return unit if x < unit * 2 ** self.bits else 2 * unit
 
-def down(x):
-    return floor(x / last_place(x)) * last_place(x) if x else x
+    def down(self, x):
+        return floor(x / self.last_place(x)) * self.last_place(x) if x else x
 
+    def up(self, x):
+        return ceil(x / self.last_place(x)) * self.last_place(x) if x else x
 
-def up(x):
-    return ceil(x / last_place(x)) * last_place(x) if x else x
+    def given(self, x):
+        return self.down(Fraction(x)), self.up(Fraction(x))
 
-
-def given(x):
-    return down(Fraction(x)), up(Fraction(x))
-
-
-def over_ends(operation):
-    def of_brackets(a, b):
+    def over_ends(self, operation, a, b):
         results = [operation(x, y) for x in a for y in b]
-        return down(min(results)), up(max(results))
-    return of_brackets
+        return self.down(min(results)), self.up(max(results))
 
+    def plus(self, a, b):
+        return self.over_ends(lambda x, y: x + y, a, b)
 
-plus = over_ends(lambda x, y: x + y)
-less = over_ends(lambda x, y: x - y)
-times = over_ends(lambda x, y: x * y)
-over = over_ends(lambda x, y: x / y)
+    def less(self, a, b):
+        return self.over_ends(lambda x, y: x - y, a, b)
 
+    def times(self, a, b):
+        return self.over_ends(lambda x, y: x * y, a, b)
 
-def power(b, n):
-    return given(1) if n == 0 else times(power(b, n - 1), b)
+    def over(self, a, b):
+        return self.over_ends(lambda x, y: x / y, a, b)
 
+    def power(self, b, n):
+        return self.given(1) if n == 0 else self.times(self.power(b, n - 1), b)
 
-def guarded(terms):
-    total = terms[0]
-    for term in terms[1:]:
-        total = plus(total, term)
-    return total[0], up(total[1] + terms[-1][1])
+    # the two series
 
+    def guarded(self, terms):
+        total = terms[0]
+        for term in terms[1:]:
+            total = self.plus(total, term)
+        return total[0], self.up(total[1] + terms[-1][1])
 
-@lru_cache(maxsize=16)
-def exponential(x):
-    terms = [given(1)]
-    for k in range(1, 257):
-        terms.append(over(times(terms[-1], x), given(k)))
-    return over(given(1), guarded(terms))
+    def exponential_of_minus(self, x):
+        terms = [self.given(1)]
+        for k in range(1, 257):
+            terms.append(self.over(self.times(terms[-1], x), self.given(k)))
+        return self.over(self.given(1), self.guarded(terms))
 
+    def series(self, z):
+        powers = [z]
+        for _ in range(20):
+            powers.append(self.times(powers[-1], self.times(z, z)))
+        quotients = [self.over(p, self.given(2 * j + 1)) for j, p in enumerate(powers)]
+        return self.times(self.given(2), self.guarded(quotients))
 
-def series(z):
-    powers = [z]
-    for _ in range(20):
-        powers.append(times(powers[-1], times(z, z)))
-    return times(given(2), guarded([over(p, given(2 * j + 1)) for j, p in enumerate(powers)]))
+    def logarithm(self, liquid, vapour):
+        k = max(k for k in range(21) if 2 ** k <= liquid / vapour)
+        r = self.over(self.given(liquid), self.times(self.given(vapour), self.given(2 ** k)))
+        z = self.over(self.less(r, self.given(1)), self.plus(r, self.given(1)))
+        return self.plus(self.times(self.given(k), self.series(self.given(Fraction(1, 3)))), self.series(z))
 
+    # the equation
 
-def logarithm(liquid, vapour):
-    k = max(k for k in range(21) if 2 ** k <= liquid / vapour)
-    r = over(given(liquid), times(given(vapour), given(2 ** k)))
-    z = over(less(r, given(1)), plus(r, given(1)))
-    return plus(times(given(k), series(given(Fraction(1, 3)))), series(z))
+    def sums(self, terms, T, rho):
+        given, plus, less, times, power = self.given, self.plus, self.less, self.times, self.power
+        delta, tau = self.over(given(rho), given(322)), self.over(given(Fraction("647.14")), given(T))
+        s0 = s1 = s2 = given(0)
+        for c, d, t, negative, magnitude in terms:
+            v = times(given(Fraction((-1) ** negative * magnitude, 10 ** 16)), power(delta, d))
+            v = times(v, power(tau, t))
+            w = given(d)
+            if c > 0:
+                v = times(v, self.exponential(power(delta, c)))
+                w = less(w, times(given(c), power(delta, c)))
+            inner = times(w, less(w, given(1)))
+            if c > 0:
+                inner = less(inner, times(given(c * c), power(delta, c)))
+            s0, s1, s2 = plus(s0, v), plus(s1, times(v, w)), plus(s2, times(v, inner))
+        return s0, s1, s2
 
+    def pressure(self, T, rho, s):
+        ideal = self.times(self.times(self.given(rho), self.R), self.given(T))
+        return self.times(ideal, self.plus(self.given(1), s[1]))
 
-def sums(terms, T, rho):
-    delta, tau = over(given(rho), given(322)), over(given(Fraction("647.14")), given(T))
-    s0 = s1 = s2 = given(0)
-    for c, d, t, negative, magnitude in terms:
-        v = times(given(Fraction((-1) ** negative * magnitude, 10 ** 16)), power(delta, d))
-        v = times(v, power(tau, t))
-        w = given(d)
-        if c > 0:
-            v = times(v, exponential(power(delta, c)))
-            w = less(w, times(given(c), power(delta, c)))
-        inner = times(w, less(w, given(1)))
-        if c > 0:
-            inner = less(inner, times(given(c * c), power(delta, c)))
-        s0, s1, s2 = plus(s0, v), plus(s1, times(v, w)), plus(s2, times(v, inner))
-    return s0, s1, s2
+    def stiffness(self, T, s):
+        twice = self.times(self.given(2), s[1])
+        return self.times(self.times(self.R, self.given(T)), self.plus(self.plus(self.given(1), twice), s[2]))
 
-
-R = given(Fraction("461.51805"))
-
-
-def pressure(T, rho, s):
-    return times(times(times(given(rho), R), given(T)), plus(given(1), s[1]))
-
-
-def stiffness(T, s):
-    return times(times(R, given(T)), plus(plus(given(1), times(given(2), s[1])), s[2]))
-
-
-def gibbs_gap(T, liquid, vapour, a, b):
-    return times(times(R, given(T)), plus(logarithm(liquid, vapour), less(plus(a[0], a[1]), plus(b[0], b[1]))))
+    def gibbs_gap(self, T, liquid, vapour, a, b):
+        gap = self.less(self.plus(a[0], a[1]), self.plus(b[0], b[1]))
+        return self.times(self.times(self.R, self.given(T)), self.plus(self.logarithm(liquid, vapour), gap))

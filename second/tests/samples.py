@@ -7,11 +7,21 @@ from second.bracket import Bracket, given
 from second.exact import at_most, fraction
 from second.sheet import ZERO, exact
 from second.term import LARGEST_MAGNITUDE, LARGEST_T, MOST, Term, packed
+from second.verdict import WIDTHS
 
 ROOT = os.path.dirname(os.path.dirname(os.path.dirname(os.path.abspath(__file__))))
 
 INFINITY, NAN = f64.word(float("inf")), f64.word(float("nan"))
 NEGATIVE = 1 << 63  # the bits of -0.0, and the sign of any f64
+WRONG_WIDTHS = (0, 31, 33, 52, 54, 2 ** 32 + 32, 2 ** 64 - 1)
+
+
+def at_each_width(test):
+    """The same test at 32 and at 53 bits."""
+    def at_both():
+        for width in WIDTHS:
+            test(width)
+    return at_both
 
 
 def data(name):
@@ -122,7 +132,7 @@ def damaged_table(random, places=1):
 
 # sheet numbers
 
-def sheet(random, bits=32, reach=20000, positive=False):
+def sheet(random, bits, reach=20000, positive=False):
     """A sheet number with an exponent of at most `reach` either way: random digits, few digits, or next to a power."""
     m = random.choice([random.getrandbits(bits), random.getrandbits(3) << (bits - 4), (1 << bits) - 1, 0,
                        random.getrandbits(4)]) | 1 << (bits - 1)
@@ -138,12 +148,12 @@ def neighbour(s):
     return (m ^ 1, e) if m >= 0 else (-(-m ^ 1), e)
 
 
-def sheet_near(random, s, bits=32):
+def sheet_near(random, bits, s):
     """A sheet number whose last places lie near those of s, of either sign; at times s itself or its mirror."""
     m, e = s
     if m == 0:
         return sheet(random, bits)
-    step = random.choice([0, 0, 1, -1, 2, random.randint(-40, 40)])
+    step = random.choice([0, 0, 1, -1, 2, random.randint(-bits - 8, bits + 8)])
     n = random.choice([m, -m, neighbour(s)[0], -neighbour(s)[0], sheet(random, bits)[0]])
     return (n, e + step)
 
@@ -152,7 +162,7 @@ def ordered(bits, a, b):
     return Bracket(bits, a, b) if at_most(exact(a), exact(b)) else Bracket(bits, b, a)
 
 
-def bracket(random, bits=32, reach=300, positive=False):
+def bracket(random, bits, reach=300, positive=False):
     """Narrow, wide, a single value, or one that reaches over zero."""
     a = sheet(random, bits, reach, positive)
     b = random.choice([a, neighbour(a), sheet(random, bits, reach, positive), (a[0], a[1] + 1)])
@@ -161,7 +171,7 @@ def bracket(random, bits=32, reach=300, positive=False):
     return ordered(bits, a, b)
 
 
-def narrow(random, bits=32, low=-4, high=7):
+def narrow(random, bits, low=-4, high=7):
     """The bracket of one positive f64, between powers of two."""
     return given(bits, *f64.exact(f64.word(2.0 ** random.uniform(low, high))))
 

@@ -1,11 +1,12 @@
-"""The rows of 01's "Both sides of the line", and those of 02 b and f, through the three public functions, as the
+"""The rows of 01's "Both sides of the line", and those of 02 b, d and f, through the three public functions, as the
 program both_sides writes them.
 
     python3 -m second.tests.test_both_sides >crates/both_sides/stdout
 
 makes that program's stored output, from this file and the second program alone; the test holds the file to it, and rt
-holds the program to the file.  A line is who is asked, the case's label (with the bits of the f64 that it is about), the
-number, the place, and the ends' bits.  The order of the rows, a group each:
+holds the program to the file.  A line is the width, who is asked, the case's label (with the bits of the f64 that it is
+about), the number, the place, and the ends' bits.  All groups come at 32 bits, then all of them at 53, then the wrong
+widths.  The order of the groups:
 
     temperatures            state sheet, density check, pair check
     densities               state sheet, density check, pair check as liquid, as vapour
@@ -21,6 +22,11 @@ number, the place, and the ends' bits.  The order of the rows, a group each:
     vapour about zero       pair check
     the odd table           state sheet at both densities, pair check
 
+and at each wrong width
+
+    a sound table           state sheet, density check, pair check
+    an empty table, T NaN   the same three
+
 Each row also says which numbers the documents allow it, so that the second program can't be wrong alone.  Assumes
 nothing.
 """
@@ -28,9 +34,9 @@ nothing.
 import os
 
 from second import f64
-from second.tests.samples import INFINITY, NAN, NEGATIVE, ROOT, above, odd_table, under
+from second.tests.samples import INFINITY, NAN, NEGATIVE, ROOT, WRONG_WIDTHS, above, odd_table, under
 from second.term import Term, packed
-from second.verdict import density_check, pair_check, state_sheet
+from second.verdict import WIDTHS, density_check, pair_check, state_sheet
 
 W = f64.word
 LEAST = 1  # the bits of 2^-1074
@@ -40,23 +46,25 @@ T, RHO, LIQUID, VAPOUR = W(300.0), W(1.0), W(322.125), W(321.875)  # accepted wi
 EASY = packed(Term(0, 1, 0, 0, 10 ** 13))  # small and positive
 NONE = packed(Term(0, 1, 0, 1, 10 ** 16))  # coefficient -1: no pressure at density 322
 STIFF = packed(Term(0, 1, 0, 1, 3 * 10 ** 16)) + packed(Term(0, 2, 0, 0, 10 ** 16))  # nor here, but it pushes back
-CEILING = bytes.fromhex("040003124af21a859a")  # at 1250 K and 1288 kg/m3 the upper end of pressure is 10^9
+CEILING = bytes.fromhex("040003124af21a859a")  # at 1250 K and 1288 kg/m3 the upper end of pressure is 10^9 at 32 bits
 OVER = bytes.fromhex("040003124af21a859b")  # there it is the next sheet number
+FINE_CEILING = bytes.fromhex("040028ec62df053562")  # the same two for 53 bits, at 300 K
+FINE_OVER = bytes.fromhex("040028ec62df053563")
 
 ANSWERED = (0, 9, 10, 11)  # the equation was worked out
 
 
-def line(who, label, answer, allowed):
-    assert answer.number in allowed, (who, label, answer)
+def line(width, who, label, answer, allowed):
+    assert answer.number in allowed, (width, who, label, answer)
     ends = " ".join("%016x" % end for end in answer.ends)
-    return "%s, %s: %d %d %s" % (who, label, answer.number, answer.place, ends)
+    return "%d %s, %s: %d %d %s" % (width, who, label, answer.number, answer.place, ends)
 
 
 def valued(label, word):
     return "%s (%016x)" % (label, word)
 
 
-def temperatures():
+def temperatures(width):
     """The pair check starts at 273.16, by the fraction, which lies just below that f64 (02 b)."""
     for label, t, number, pair in (
             ("T 273", W(273.0), 0, 3),
@@ -71,12 +79,12 @@ def temperatures():
             ("T infinity", INFINITY, 3, 3),
             ("T -infinity", INFINITY | NEGATIVE, 3, 3)):
         label = valued(label, t)
-        yield line("state sheet", label, state_sheet(EASY, t, RHO), (number,))
-        yield line("density check", label, density_check(EASY, t, RHO, 0, WIDE), (number,))
-        yield line("pair check", label, pair_check(EASY, t, LIQUID, VAPOUR, WIDE, WIDE), (pair,))
+        yield line(width, "state sheet", label, state_sheet(width, EASY, t, RHO), (number,))
+        yield line(width, "density check", label, density_check(width, EASY, t, RHO, 0, WIDE), (number,))
+        yield line(width, "pair check", label, pair_check(width, EASY, t, LIQUID, VAPOUR, WIDE, WIDE), (pair,))
 
 
-def densities():
+def densities(width):
     for label, rho, allowed, liquid, vapour in (
             ("density 1/1024", W(2.0 ** -10), ANSWERED, (7,), ANSWERED),
             ("density next under 1/1024", under(W(2.0 ** -10)), (4,), (4,), (4,)),
@@ -86,24 +94,24 @@ def densities():
             ("density infinity", INFINITY, (4,), (4,), (4,)),
             ("density -infinity", INFINITY | NEGATIVE, (4,), (4,), (4,))):
         label = valued(label, rho)
-        yield line("state sheet", label, state_sheet(EASY, T, rho), allowed)
-        yield line("density check", label, density_check(EASY, T, rho, 0, WIDE), allowed)
-        yield line("pair check's liquid", label, pair_check(EASY, T, rho, VAPOUR, WIDE, WIDE), liquid)
-        yield line("pair check's vapour", label, pair_check(EASY, T, LIQUID, rho, WIDE, WIDE), vapour)
+        yield line(width, "state sheet", label, state_sheet(width, EASY, T, rho), allowed)
+        yield line(width, "density check", label, density_check(width, EASY, T, rho, 0, WIDE), allowed)
+        yield line(width, "pair check's liquid", label, pair_check(width, EASY, T, rho, VAPOUR, WIDE, WIDE), liquid)
+        yield line(width, "pair check's vapour", label, pair_check(width, EASY, T, LIQUID, rho, WIDE, WIDE), vapour)
 
 
-def three(label, table, allowed, t=T, rho=RHO, target=0, liquid=LIQUID, vapour=VAPOUR, pair=None):
-    yield line("state sheet", label, state_sheet(table, t, rho), allowed)
-    yield line("density check", label, density_check(table, t, rho, target, WIDE), allowed)
-    yield line("pair check", label, pair_check(table, t, liquid, vapour, WIDE, WIDE), pair or allowed)
+def three(width, label, table, allowed, t=T, rho=RHO, target=0, liquid=LIQUID, vapour=VAPOUR, pair=None):
+    yield line(width, "state sheet", label, state_sheet(width, table, t, rho), allowed)
+    yield line(width, "density check", label, density_check(width, table, t, rho, target, WIDE), allowed)
+    yield line(width, "pair check", label, pair_check(width, table, t, liquid, vapour, WIDE, WIDE), pair or allowed)
 
 
-def tables():
+def tables(width):
     for size, number in ((9, 0), (576, 0), (0, 1), (8, 1), (10, 1), (577, 1), (585, 1)):
-        yield from three("table of %d bytes" % size, (EASY * 65)[:size], (number,))
+        yield from three(width, "table of %d bytes" % size, (EASY * 65)[:size], (number,))
 
 
-def terms():
+def terms(width):
     least = Term(0, 1, 0, 0, 1)
     for label, term, number in (
             ("t 24", least._replace(t=24), 0),
@@ -113,22 +121,29 @@ def terms():
             ("magnitude 1", least, 0),
             ("magnitude 0", least._replace(magnitude=0), 2),
             ("d 0", least._replace(d=0), 2)):
-        yield from three(label, packed(term), (number,))
+        yield from three(width, label, packed(term), (number,))
     broken = packed(least._replace(d=0)) + packed(least._replace(magnitude=0))
-    yield from three("terms 2 and 3 broken", packed(least) + broken, (2,))
+    yield from three(width, "terms 2 and 3 broken", packed(least) + broken, (2,))
 
 
-def ceilings():
-    state = dict(t=W(1250.0), rho=W(1288.0), target=W(1e9), liquid=W(1288.0), vapour=RHO)
-    yield from three("up to 10^9", CEILING, (0,), **state, pair=(9,))
-    yield from three("up to 10^9 + 1/4", OVER, (8,), **state)
+def ceilings(width):
+    """Each width's own table meets the limit, and the next one is above it by a unit of that width's last place."""
+    state = dict(rho=W(1288.0), target=W(1e9), liquid=W(1288.0), vapour=RHO)
+    under, over = ((0,), (9,)), ((8,), (8,))  # of the state sheet and the density check; of the pair check
+    for label, table, t, coarse, fine in (
+            ("up to 10^9 at 32", CEILING, W(1250.0), under, under),
+            ("up to 10^9 + 1/4 at 32", OVER, W(1250.0), over, under),
+            ("up to 10^9 at 53", FINE_CEILING, T, over, under),
+            ("up to 10^9 + 2^-23 at 53", FINE_OVER, T, over, over)):
+        allowed, pair = coarse if width == 32 else fine
+        yield from three(width, label, table, allowed, t=t, **state, pair=pair)
 
 
-def empty():
-    yield from three("empty table, T NaN", b"", (1,), t=NAN)
+def empty(width):
+    yield from three(width, "empty table, T NaN", b"", (1,), t=NAN)
 
 
-def targets():
+def targets(width):
     for label, target, allowed in (
             ("target 0", W(0.0), (0,)),
             ("target -0", NEGATIVE, (0,)),
@@ -140,10 +155,11 @@ def targets():
             ("target NaN", NAN, (5,)),
             ("target infinity", INFINITY, (5,)),
             ("target -infinity", INFINITY | NEGATIVE, (5,))):
-        yield line("density check", valued(label, target), density_check(STIFF, T, W(322.0), target, 0), allowed)
+        answer = density_check(width, STIFF, T, W(322.0), target, 0)
+        yield line(width, "density check", valued(label, target), answer, allowed)
 
 
-def tolerances():
+def tolerances(width):
     for label, tolerance, numbers in (
             ("tolerance 0", W(0.0), (0, 9, 10)),
             ("tolerance -0", NEGATIVE, (0, 9, 10)),
@@ -156,60 +172,76 @@ def tolerances():
             ("tolerance infinity", INFINITY, (6, 6, 6)),
             ("tolerance -infinity", INFINITY | NEGATIVE, (6, 6, 6))):
         label = valued(label, tolerance)
-        answers = (density_check(STIFF, T, W(322.0), 0, tolerance),
-                   pair_check(EASY, T, LIQUID, VAPOUR, tolerance, WIDE),
-                   pair_check(EASY, T, LIQUID, VAPOUR, WIDE, tolerance))
+        answers = (density_check(width, STIFF, T, W(322.0), 0, tolerance),
+                   pair_check(width, EASY, T, LIQUID, VAPOUR, tolerance, WIDE),
+                   pair_check(width, EASY, T, LIQUID, VAPOUR, WIDE, tolerance))
         for who, answer, number in zip(("density check", "pair check's pressure", "pair check's Gibbs energy"),
                                        answers, numbers):
-            yield line(who, label, answer, (number,))
+            yield line(width, who, label, answer, (number,))
 
 
-def sides():
+def sides(width):
     edge = W(322.0)
     for label, rho, number in (("liquid 322", edge, 7), ("liquid next above 322", above(edge), 0)):
-        yield line("pair check", valued(label, rho), pair_check(EASY, T, rho, VAPOUR, WIDE, WIDE), (number,))
+        answer = pair_check(width, EASY, T, rho, VAPOUR, WIDE, WIDE)
+        yield line(width, "pair check", valued(label, rho), answer, (number,))
     for label, rho, number in (("vapour 322", edge, 7), ("vapour next under 322", under(edge), 0)):
-        yield line("pair check", valued(label, rho), pair_check(EASY, T, LIQUID, rho, WIDE, WIDE), (number,))
+        answer = pair_check(width, EASY, T, LIQUID, rho, WIDE, WIDE)
+        yield line(width, "pair check", valued(label, rho), answer, (number,))
 
 
-def least_gaps():
+def least_gaps(width):
     for label, target, tolerance, number in (
             ("gap of 0, tolerance 0", 0, 0, 11),
             ("gap of -2^-1074, tolerance 0", LEAST, 0, 9),
             ("gap of -2^-1074, tolerance 2^-1074", LEAST, LEAST, 11)):
-        yield line("density check", label, density_check(NONE, T, W(322.0), target, tolerance), (number,))
+        yield line(width, "density check", label, density_check(width, NONE, T, W(322.0), target, tolerance), (number,))
 
 
-def stiffnesses():
-    """About a coefficient of -1/2.  The last magnitude is the greatest whose bracket does not reach it."""
-    for label, magnitude, number in (
-            ("stiffness 0", 5 * 10 ** 15, 11),
-            ("stiffness down to 0", 4999999998835847, 11),
-            ("stiffness above 0", 4999999998835846, 0)):
-        table = packed(Term(0, 1, 0, 1, magnitude))
-        yield line("density check", label, density_check(table, T, W(322.0), W(22e6), WIDE), (number,))
+def stiffnesses(width):
+    """About a coefficient of -1/2 at the critical density, for 32 bits, and one of -1 at half of it, for 53.  The last
+    magnitude of each three is the greatest whose bracket does not reach that coefficient."""
+    for label, rho, magnitude, coarse, fine in (
+            ("stiffness 0", 322.0, 5 * 10 ** 15, 11, 11),
+            ("stiffness down to 0 at 32", 322.0, 4999999998835847, 11, 0),
+            ("stiffness above 0 at 32", 322.0, 4999999998835846, 0, 0),
+            ("stiffness 0 at half the density", 161.0, 10 ** 16, 11, 11),
+            ("stiffness down to 0 at 53", 161.0, 10 ** 16 - 1, 11, 11),
+            ("stiffness above 0 at 53", 161.0, 10 ** 16 - 2, 11, 0)):
+        table, number = packed(Term(0, 1, 0, 1, magnitude)), coarse if width == 32 else fine
+        answer = density_check(width, table, T, W(rho), W(22e6 * (rho / 322)), WIDE)
+        yield line(width, "density check", label, answer, (number,))
 
 
-def vapours():
+def vapours(width):
     """About a coefficient of -2, with the vapour at half the critical density: 02 f.  As for stiffness."""
-    for label, magnitude, number in (
-            ("vapour's pressure 0", 2 * 10 ** 16, 21),
-            ("vapour's pressure down to 0", 19999999995343388, 21),
-            ("vapour's pressure above 0", 19999999995343387, 9)):
-        table = packed(Term(0, 1, 0, 1, magnitude))
-        yield line("pair check", label, pair_check(table, T, LIQUID, W(161.0), WIDE, WIDE), (number,))
+    for label, magnitude, coarse, fine in (
+            ("vapour's pressure 0", 2 * 10 ** 16, 21, 21),
+            ("vapour's pressure down to 0 at 32", 19999999995343388, 21, 9),
+            ("vapour's pressure above 0 at 32", 19999999995343387, 9, 9),
+            ("vapour's pressure down to 0 at 53", 19999999999999998, 21, 21),
+            ("vapour's pressure above 0 at 53", 19999999999999997, 21, 9)):
+        table, number = packed(Term(0, 1, 0, 1, magnitude)), coarse if width == 32 else fine
+        yield line(width, "pair check", label, pair_check(width, table, T, LIQUID, W(161.0), WIDE, WIDE), (number,))
 
 
-def odd():
+def odd(width):
     """Two densities that the pair check accepted before 02 f, with both pressures below zero; and two that push."""
     table, t = odd_table(), W(394.15)
     for label, liquid, vapour, number in (
             ("below zero", W(476.11653), W(267.05587), 21),
             ("above zero", W(494.77736), W(7.668745), 0)):
         label = "odd table, " + label
-        yield line("state sheet's liquid", label, state_sheet(table, t, liquid), (0,))
-        yield line("state sheet's vapour", label, state_sheet(table, t, vapour), (0,))
-        yield line("pair check", label, pair_check(table, t, liquid, vapour, W(1000.0), W(1.0)), (number,))
+        yield line(width, "state sheet's liquid", label, state_sheet(width, table, t, liquid), (0,))
+        yield line(width, "state sheet's vapour", label, state_sheet(width, table, t, vapour), (0,))
+        answer = pair_check(width, table, t, liquid, vapour, W(1000.0), W(1.0))
+        yield line(width, "pair check", label, answer, (number,))
+
+
+def wrong_width(width):
+    """19 comes first of all, whatever else is wrong."""
+    yield from three(width, "sound table", EASY, (19,))
+    yield from three(width, "empty table, T NaN", b"", (19,), t=NAN)
 
 
 GROUPS = (temperatures, densities, tables, terms, ceilings, empty, targets, tolerances, sides, least_gaps, stiffnesses,
@@ -217,7 +249,9 @@ GROUPS = (temperatures, densities, tables, terms, ceilings, empty, targets, tole
 
 
 def text():
-    return "".join(row + "\n" for group in GROUPS for row in group())
+    """The rows of every group at each width, and then the wrong widths'."""
+    asked = [(group, width) for width in WIDTHS for group in GROUPS] + [(wrong_width, width) for width in WRONG_WIDTHS]
+    return "".join(row + "\n" for group, width in asked for row in group(width))
 
 
 def test_stored_output():

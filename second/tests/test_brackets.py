@@ -11,9 +11,7 @@ from second.level import exponential_at, logarithm_at, series_at
 from second.logarithm import doublings, ln_2, logarithm_of_ratio
 from second.sheet import ZERO, exact, exact_difference, exact_product, exact_quotient, exact_sum
 from second.tests import samples
-from second.tests.samples import holds
-
-ONE = (2 ** 31, -31)
+from second.tests.samples import at_each_width, holds
 
 
 def test_operators_follow_the_rule():
@@ -41,11 +39,12 @@ def test_the_rule_holds_what_it_should():
         assert holds(a * b, x * y) and holds(a - b, x - y) and holds(a + b, x + y)
 
 
-def test_power_by_recursion():
+@at_each_width
+def test_power_by_recursion(width):
     random = randoms.Random(13)
     for _ in range(200):
-        b = samples.bracket(random, 32, 30)
-        result = whole(32, 1)
+        b = samples.bracket(random, width, 30)
+        result = whole(width, 1)
         for n in range(8):
             assert power(b, n) == result
             result = result * b
@@ -58,12 +57,15 @@ def test_whole_numbers_are_exact():
             assert b.lower == b.upper and fraction(exact(b.lower)) == n
 
 
-def test_P9():
-    assert exponential_of_minus(whole(32, 0)) == Bracket(32, ONE, ONE)
+@at_each_width
+def test_P9(width):
+    one = (1 << (width - 1), 1 - width)
+    assert exponential_of_minus(whole(width, 0)) == Bracket(width, one, one)
 
 
-def test_P10():
-    assert logarithm_of_ratio(32, (322, 1, 0), (322, 1, 0)) == Bracket(32, ZERO, ZERO)
+@at_each_width
+def test_P10(width):
+    assert logarithm_of_ratio(width, (322, 1, 0), (322, 1, 0)) == Bracket(width, ZERO, ZERO)
 
 
 def test_exponential_covers_its_levels():
@@ -111,3 +113,13 @@ def test_ratio_next_to_a_power_of_two_keeps_its_negative_end():
         assert doublings(liquid, vapour) == k
         b = logarithm_of_ratio(32, liquid, vapour) - k * ln_2(32)
         assert b.lower[0] < 0 < b.upper[0] and not at_most(exact(b.upper), (1, 1, -34))
+
+
+def test_no_ratio_dips_below_one_at_53_bits():
+    """Both densities are sheet numbers there, so the exact quotient is rounded, and 1 is a sheet number."""
+    random = randoms.Random(14)
+    words = [samples.density(random) for _ in range(200)]
+    for a, b in zip(words, words[1:] + [samples.under(f64.word(322.0))]):
+        liquid, vapour = f64.exact(max(a, b)), f64.exact(min(a, b))
+        r = given(53, *liquid) / (given(53, *vapour) * whole(53, 2 ** doublings(liquid, vapour)))
+        assert at_most((1, 1, 0), exact(r.lower))

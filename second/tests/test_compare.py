@@ -7,15 +7,17 @@ import os
 import subprocess
 import sys
 import tempfile
+from runpy import run_path
 
 from second.tests.samples import ROOT
+from stream import Run
 
 COMPARE = os.path.join(ROOT, "tests", "compare")
-LINES = 700  # of the comparison of the series
+LINES = 15000  # of the comparison of given values
 PROGRAM = """
 import os, sys
 sys.path[:0] = [{root!r}, os.path.join({root!r}, "tests")]
-from gen_series import answer
+from gen_given import answer
 from stream import Reader
 reader, lines = Reader(sys.stdin.buffer.read()), []
 while not reader.ended():
@@ -26,12 +28,12 @@ sys.stdout.write("".join(line + "\\n" for line in lines))
 
 
 def compared(*arguments, spoil=""):
-    """Exit status and last line of a comparison of the series with the program spoiled."""
+    """Exit status and last line of a comparison of given values with the program spoiled."""
     with tempfile.TemporaryDirectory() as folder:
         program = os.path.join(folder, "program.py")
         with open(program, "w") as file:
             file.write(PROGRAM.format(root=ROOT, spoil=spoil))
-        arguments = arguments or ("series=%s %s" % (sys.executable, program),)
+        arguments = arguments or ("given=%s %s" % (sys.executable, program),)
         done = subprocess.run([sys.executable, COMPARE, *arguments], stdout=subprocess.PIPE, cwd=folder)
     return done.returncode, done.stdout.decode().split("\n")[-2]
 
@@ -60,5 +62,12 @@ def test_a_bad_end_fails():
 
 
 def test_no_program_fails():
-    assert compared("series=no-such-program-here")[0] == 1
+    assert compared("given=no-such-program-here")[0] == 1
     assert compared("no_such_comparison") == (1, counted(0, 1))
+
+
+def test_words_stand_behind_the_command():
+    output_of = run_path(COMPARE)["output_of"]
+    show = [sys.executable, "-c", "import sys; print(sys.argv[1:])"]
+    for words in ((), ("53",), ("", "x y", "32")):
+        assert output_of(show, Run({}, b"", [], words)) == ([str(list(words))], None)

@@ -14,6 +14,7 @@ from second.logarithm import logarithm_of_ratio
 from second.term import terms_of
 from second.tests import samples
 from second.tests.samples import holds
+from second.verdict import WIDTHS
 
 LEVELS = (256, 300)
 ENDS = [(273.0, 2.0 ** -10), (273.0, 1288.0), (1273.0, 2.0 ** -10), (1273.0, 1288.0), (647.0, 322.0)]
@@ -35,7 +36,7 @@ def tables(random, count):
         yield tuple(terms_of(table))
 
 
-def check_state(terms, T, rho, bits):
+def check_state(bits, terms, T, rho):
     T, rho = exact(word(T)), exact(word(rho))
     state = phase(bits, terms, T, rho)
     for N in LEVELS:
@@ -47,22 +48,33 @@ def check_state(terms, T, rho, bits):
 def test_states_cover_the_equation():
     random = randoms.Random(31)
     for terms in tables(random, 200):
-        check_state(terms, temperature(random), density(random), 32)
+        T, rho = temperature(random), density(random)
+        for width in WIDTHS:
+            check_state(width, terms, T, rho)
 
 
 def test_ends_of_the_range():
     random = randoms.Random(32)
     for terms in tables(random, 4):
         for T, rho in ENDS:
-            check_state(terms, T, rho, 32)
-            check_state(terms, T, rho, 53)
+            for width in WIDTHS:
+                check_state(width, terms, T, rho)
 
 
 def test_f64s_of_all_digits():
     random = randoms.Random(33)
     for terms in tables(random, 10):
         T, rho = random.uniform(273, 1273), 2 ** random.uniform(-10, 10)
-        check_state(terms, T, rho, random.choice([16, 32, 53]))
+        for bits in (16,) + WIDTHS:
+            check_state(bits, terms, T, rho)
+
+
+def check_pair(width, terms, T, liquid, vapour):
+    heavy, light = check_state(width, terms, T, liquid), check_state(width, terms, T, vapour)
+    T, liquid, vapour = (exact(word(x)) for x in (T, liquid, vapour))
+    gap = gibbs_gap(heavy, light, logarithm_of_ratio(width, liquid, vapour))
+    for N in LEVELS:
+        assert holds(gap, gibbs_gap_at(N, terms, *map(fraction, (T, liquid, vapour))))
 
 
 def test_pairs_cover_the_equation():
@@ -71,8 +83,5 @@ def test_pairs_cover_the_equation():
         T, liquid, vapour = temperature(random), density(random, 9, 10), density(random, -10, 7)
         if liquid < vapour:
             continue
-        heavy, light = check_state(terms, T, liquid, 32), check_state(terms, T, vapour, 32)
-        T, liquid, vapour = (exact(word(x)) for x in (T, liquid, vapour))
-        gap = gibbs_gap(heavy, light, logarithm_of_ratio(32, liquid, vapour))
-        for N in LEVELS:
-            assert holds(gap, gibbs_gap_at(N, terms, *map(fraction, (T, liquid, vapour))))
+        for width in WIDTHS:
+            check_pair(width, terms, T, liquid, vapour)

@@ -71,6 +71,7 @@ def test_the_script_refuses_other_rows():
 
 def test_the_program_runs_from_any_directory():
     with tempfile.TemporaryDirectory() as folder:
-        run = subprocess.run([sys.executable, os.path.join(samples.ROOT, "second")], cwd=folder, input=b"abc",
-                             stdout=subprocess.PIPE, check=True)
-    assert run.stdout == b"1 12 0 0000000000000000 0000000000000000\n"
+        for words in ([], ["32"], ["53"], ["x"], [""]):
+            command = [sys.executable, os.path.join(samples.ROOT, "second"), *words]
+            run = subprocess.run(command, cwd=folder, input=b"abc", stdout=subprocess.PIPE, check=True)
+            assert run.stdout == b"1 12 0 0000000000000000 0000000000000000\n"

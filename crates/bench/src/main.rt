@@ -1,5 +1,6 @@
-// The bench program of document 01: a table of terms from `terms.bin`, proposals from standard input, one line for each.
-// What a line says is proved (`answer_line`, `cut_line`); the rest reads, calls and writes.
+// The bench program of document 01: a table of terms from `terms.bin`, proposals from standard input, one line for each, at the width that
+// the first word names (document 02, d), 32 where there is none. What a line says is proved (`answer_line`, `cut_line`), and what a word
+// names (`line::width_of`); the rest reads, calls and writes.
 mod answer;
 
 ghost use Rattle.line.specs.Line.{Within};
@@ -13,7 +14,17 @@ use line::Line;
 fn main() {
     let mut table = [0u8; 577];
     let length = read_table(&mut table);
-    answer_all(&table[..length]);
+    answer_all(width(), &table[..length]);
+}
+
+// A word of more than two bytes counts as empty: it names no width either, and every proposal gets 19.
+fn width() -> u64 {
+    if os::arg_count() < 2 {
+        return 32;
+    }
+    let mut word = [0u8; 2];
+    let length = os::arg(1, &mut word);
+    line::width_of(&word[..length])
 }
 
 // The table's bytes, and how many there are: none where there is no file, 577 where it is longer than any sound table.
@@ -30,15 +41,15 @@ fn read_table(table: &mut [u8]) -> usize
 }
 
 // A proved loop has to end, and nothing says that the input does: the count's own end, which no run meets, is the last.
-fn answer_all(table: &[u8]) {
+fn answer_all(width: u64, table: &[u8]) {
     let mut count: u64 = 1;
-    while count < u64::MAX && answer_one(table, count) {
+    while count < u64::MAX && answer_one(width, table, count) {
         count += 1;
     }
 }
 
 // One proposal, from as many pieces as the input comes in. Answers whether another may follow.
-fn answer_one(table: &[u8], count: u64) -> bool {
+fn answer_one(width: u64, table: &[u8], count: u64) -> bool {
     let mut proposal = [0u8; 40];
     let got = io::read_full(STDIN_FILENO, &mut proposal);
     if got == 0 {
@@ -48,7 +59,7 @@ fn answer_one(table: &[u8], count: u64) -> bool {
         write_line(cut_line(count));
         return false;
     }
-    write_line(answer_line(table, count, &proposal))
+    write_line(answer_line(width, table, count, &proposal))
 }
 
 fn write_line(line: Line) -> bool

@@ -1,19 +1,19 @@
-// One case through one public function of `verdict`. Its line: who is asked and the case's label, then the number, the place, and the ends
-// as 16 hexadecimal digits each.
+// One case through one public function of `verdict`. Its line: the width, who is asked and the case's label, then the number, the place, and
+// the ends as 16 hexadecimal digits each.
 use libc::STDOUT_FILENO;
 use verdict::State;
 
 // A line's front, for a case that is about a table.
-pub fn named(who: &[u8], label: &[u8]) {
-    io::write_all(STDOUT_FILENO, who);
+pub fn named(width: u64, who: &[u8], label: &[u8]) {
+    front(width, who);
     io::write_all(STDOUT_FILENO, b", ");
     io::write_all(STDOUT_FILENO, label);
     io::write_all(STDOUT_FILENO, b":");
 }
 
 // The same for a case that is about an f64, whose bits stand behind the label.
-pub fn valued(who: &[u8], label: &[u8], bits: u64) {
-    io::write_all(STDOUT_FILENO, who);
+pub fn valued(width: u64, who: &[u8], label: &[u8], bits: u64) {
+    front(width, who);
     io::write_all(STDOUT_FILENO, b", ");
     io::write_all(STDOUT_FILENO, label);
     io::write_all(STDOUT_FILENO, b" (");
@@ -21,12 +21,18 @@ pub fn valued(who: &[u8], label: &[u8], bits: u64) {
     io::write_all(STDOUT_FILENO, b"):");
 }
 
-pub fn sheet(table: &[u8], temperature: f64, density: f64) {
+fn front(width: u64, who: &[u8]) {
+    io::print_decimal(STDOUT_FILENO, width);
+    io::write_all(STDOUT_FILENO, b" ");
+    io::write_all(STDOUT_FILENO, who);
+}
+
+pub fn sheet(width: u64, table: &[u8], temperature: f64, density: f64) {
     let state = State {
         temperature,
         density,
     };
-    let values = reading::of_sheet(verdict::state_sheet(table, state));
+    let values = reading::of_sheet(verdict::state_sheet(width, table, state));
     whole(values[0]);
     whole(values[1]);
     words::next(values[2]);
@@ -36,16 +42,24 @@ pub fn sheet(table: &[u8], temperature: f64, density: f64) {
     words::end_line();
 }
 
-pub fn density(table: &[u8], temperature: f64, density: f64, target: f64, tolerance: f64) {
+pub fn density(
+    width: u64,
+    table: &[u8],
+    temperature: f64,
+    density: f64,
+    target: f64,
+    tolerance: f64,
+) {
     let state = State {
         temperature,
         density,
     };
-    let answer = verdict::density_check(table, state, target, tolerance);
+    let answer = verdict::density_check(width, table, state, target, tolerance);
     check(reading::of_check(answer));
 }
 
 pub fn pair(
+    width: u64,
     table: &[u8],
     temperature: f64,
     liquid: f64,
@@ -57,7 +71,14 @@ pub fn pair(
         temperature,
         density: liquid,
     };
-    let answer = verdict::pair_check(table, state, vapour, pressure_tolerance, gibbs_tolerance);
+    let answer = verdict::pair_check(
+        width,
+        table,
+        state,
+        vapour,
+        pressure_tolerance,
+        gibbs_tolerance,
+    );
     check(reading::of_check(answer));
 }
 

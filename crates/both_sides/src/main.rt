@@ -1,5 +1,5 @@
-// Every row of document 01's "Both sides of the line", and of document 02 the pair check's temperatures (b) and vapours (f), through the
-// public functions of `verdict`: a line for each case. The stored output is the second program's (second/tests/test_both_sides.py, which
+// Every row of document 01's "Both sides of the line", and of document 02 the pair check's temperatures (b) and vapours (f), at 32 and at 53
+// bits (d), and widths that are neither, through the public functions of `verdict`: a line for each case. The stored output is the second program's (second/tests/test_both_sides.py, which
 // also says the order), so nothing here judges an answer.
 mod asked; // asked.rt: one case through one function, and its line
 mod double; // double.rt: f64s by their bits
@@ -7,22 +7,35 @@ mod gaps; // gaps.rt: targets, tolerances, sides, least gaps, stiffnesses
 mod states; // states.rt: temperatures and densities
 mod tables; // tables.rt: tables, terms and the ceiling
 mod vapours; // vapours.rt: vapours about zero pressure, and the odd table
+mod widths; // widths.rt: widths that are neither 32 nor 53
 
 // One term c 0, d 1, t 0 with coefficient 1/1000: what is asked with it is accepted, unless the case is about something else.
 pub const EASY: [u8; 9] = [4, 0, 0, 9, 24, 78, 114, 160, 0];
 
 fn main() {
-    states::temperatures();
-    states::densities();
-    tables::lengths();
-    tables::terms();
-    tables::ceilings();
-    tables::empty();
-    gaps::targets();
-    gaps::tolerances();
-    gaps::sides();
-    gaps::least_gaps();
-    gaps::stiffnesses();
-    vapours::about_zero();
-    vapours::odd();
+    at(32);
+    at(53);
+    widths::none(0);
+    widths::none(31);
+    widths::none(33);
+    widths::none(52);
+    widths::none(54);
+    widths::none(4294967328);
+    widths::none(18446744073709551615);
+}
+
+fn at(width: u64) {
+    states::temperatures(width);
+    states::densities(width);
+    tables::lengths(width);
+    tables::terms(width);
+    tables::ceilings(width);
+    tables::empty(width);
+    gaps::targets(width);
+    gaps::tolerances(width);
+    gaps::sides(width);
+    gaps::least_gaps(width);
+    gaps::stiffnesses(width);
+    vapours::about_zero(width);
+    vapours::odd(width);
 }

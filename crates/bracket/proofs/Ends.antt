@@ -1,24 +1,25 @@
 -- Which two sheet numbers a rule's bracket is: by the order of the ends for the sum and the difference, by their signs for the product and
 -- the quotient; and that the least of two roundings is the rounding of the least. Over the count of bits, suc v. Assumes nothing.
-use mathlib.Core.Path.{_≡_, refl, sym, subst, _∙_}
+use mathlib.Core.Path.{_≡_, refl, sym, ap, subst, _∙_}
 use mathlib.Core.Bool.{Bool, true, false, not, cond}
-use Prim.Native.Nat.{ℕ, suc, _*_, _^_}
+use Prim.Native.Nat.{ℕ, suc, _*_, _^_, _<_}
 use Rattle.exact.specs.Fraction.{Fraction, nat, leq, parts, least, greatest, _⊕_, _⊖_, _⊗_, _⊘_, _≼_, _≺_, _≈_}
 use Rattle.exact.specs.Fraction.Order.{≼-trans, ≼-antisym, ≺→≼, ≈-sym, ≼-leq, leq-true, leq-false}
-use Rattle.exact.specs.Fraction.Parts.{parts-nonneg, parts-nonpos}
+use Rattle.exact.specs.Fraction.Parts.{parts-nonneg, parts-nonpos, nat-pos}
 use Rattle.sheet.specs.declared.Sheet.{Sheet}
 use Rattle.sheet.specs.Number.{value, bias, Spelled}
 use Rattle.sheet.specs.Round.{round, down, up}
 use Rattle.sheet.proofs.Laws.{round-mono, round-spelled, round-value}
 use Rattle.sheet.proofs.Spelling.{one-spelling}
 use Rattle.bracket.specs.declared.Bracket.{Bracket}
-use Rattle.bracket.specs.Span.{Span, Ordered, Sign, side}
+use Rattle.bracket.specs.Span.{Span, Ordered, Sign, side, whole}
 use Rattle.bracket.specs.Rules.{ends, given, plus, minus, times, divided}
 use Rattle.bracket.specs.Held.{Held}
 use Rattle.bracket.proofs.Signs.{over-plus, over-minus, over-times, over-divided, over-comm}
 use Rattle.bracket.proofs.Same.{rounded-is, rounded-≃, point-≃}
+use Rattle.bracket.proofs.Within.{point-ordered}
 
-pub held-ordered : {b : Bracket} → Held b → Ordered (ends b)
+pub held-ordered : {v : ℕ} {b : Bracket} → Held v b → Ordered (ends b)
 held-ordered h = record { order = h .order }
 
 -- ---- signs
@@ -114,6 +115,18 @@ module _ (v : ℕ) (a b : Bracket) (p : Ordered (ends a)) (q : Ordered (ends b))
       → record { lo = down (suc v) (value (a .lo) ⊘ side (not (a .lo .neg)) (ends b)); hi = up (suc v) (value (a .hi) ⊘ side (a .hi .neg) (ends b)) } ≡ divided (suc v) (ends a) (ends b)
   divided-by k =
       rounded-is v (over-divided (a .lo .neg) (a .hi .neg) (ends a) (ends b) p q k (sign-value (a .lo)) (sign-value (a .hi))) refl refl
+
+-- by one number above zero, whatever the signs
+pub divided-share : (v : ℕ) (a : Bracket) (n : ℕ) → Ordered (ends a) → 0 < n
+    → record { lo = down (suc v) (value (a .lo) ⊘ nat n); hi = up (suc v) (value (a .hi) ⊘ nat n) } ≡ divided (suc v) (ends a) (whole n)
+divided-share v a n o p =
+    rounded-is v (over-divided (a .lo .neg) (a .hi .neg) (ends a) (whole n) o (point-ordered (nat n)) (nat-pos p) (sign-value (a .lo)) (sign-value (a .hi)))
+    (ap (λ (x : Fraction). down (suc v) (value (a .lo) ⊘ x)) (sym (one-end (not (a .lo .neg)))))
+    (ap (λ (x : Fraction). up (suc v) (value (a .hi) ⊘ x)) (sym (one-end (a .hi .neg))))
+  where
+    one-end : (t : Bool) → side t (whole n) ≡ nat n
+    one-end true = refl
+    one-end false = refl
 
 pub times-comm : (v : ℕ) (A B : Span) → times (suc v) A B ≡ times (suc v) B A
 times-comm v A B = rounded-≃ v (over-comm A B)

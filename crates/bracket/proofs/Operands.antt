@@ -1,5 +1,5 @@
 -- Whole numbers and f64s as operands: a whole number of at most suc v bits is exact, so that a rule with its bracket is the rule with the
--- number itself; at 32 bits the brackets of both are held. Assumes nothing.
+-- number itself; and the brackets of both are held. Assumes nothing.
 use mathlib.Core.Path.{_≡_, sym, ap, _∙_, subst}
 use mathlib.Core.Logic.{inl, inr, ⊎-elim}
 use mathlib.Core.Bool.{Bool, true, false}
@@ -16,10 +16,10 @@ use Rattle.exact.specs.Fraction.Readers.{top-resp, top-parts, bottom-parts, top
 use Rattle.sheet.specs.declared.Sheet.{Sheet}
 use Rattle.sheet.specs.Number.{bias, value}
 use Rattle.sheet.specs.Round.{round}
-use Rattle.sheet.specs.Range.{extent, Span, InRange}
+use Rattle.sheet.specs.Range.{extent, Span, Width, InRange}
 use Rattle.sheet.proofs.Gaps.{zero-or-pos}
 use Rattle.sheet.proofs.Laws.{round-whole, round-spelled}
-use Rattle.sheet.proofs.Live.{bias-is}
+use Rattle.sheet.proofs.Live.{bias-is, few-digits}
 use Rattle.sheet.proofs.Measures.{span-within}
 use Rattle.doubles.specs.Double.{exactOf}
 use Rattle.doubles.proofs.Given.{given-within}
@@ -58,7 +58,7 @@ module _ (v n : ℕ) {a : Bracket} (few : n < 2 ^ suc v) (is : a ≡ given (suc 
   pub whole-divided : Ordered X → nat 0 ≺ X .low → divided (suc v) (ends a) X ≡ divided (suc v) (whole n) X
   whole-divided o p = divided-≃ v same (≃-refl X) o p
 
--- ---- the range at 32 bits
+-- ---- the range
 
 whole-extent : (s : Sheet) (n : ℕ) → value s ≈ nat n → extent s ≡ n * 2 ^ bias
 unfolding value
@@ -73,21 +73,28 @@ whole-span n h =
       most = rw (pow-add 2 bias 32) (omega (arith, mul-le-mul-right (2 ^ bias) (le-of-lt h)));
     }
 
-whole-in-range : (up : Bool) (n : ℕ) → n < 2 ^ 32 → InRange (round up 32 (nat n))
-whole-in-range up n h =
+whole-in-range : {v : ℕ} → Width v → (up : Bool) (n : ℕ) → n < 2 ^ 32 → InRange v (round up (suc v) (nat n))
+whole-in-range {v} w up n h =
     let b = bias-is in
-    span-within 31 20000 20000 bias (bias + 32) (round up 32 (nat n)) (round-spelled up 31 (nat n))
-    (subst (Span bias (bias + 32)) (sym (whole-extent (round up 32 (nat n)) n (round-whole up 31 n h))) (whole-span n h)) (omega arith) (omega arith) (omega arith)
-
-pub whole-held : (n : ℕ) → n < 2 ^ 32 → Held (given 32 (nat n))
-unfolding rounded
-whole-held n h = record { lo = whole-in-range false n h; hi = whole-in-range true n h; order = given-ordered 31 (nat n) .order }
-
-pub double-held : (x : Float) → T (fits binary64 x) → T (finite x) → Held (given 32 (exactOf x))
-unfolding rounded
-double-held x f h =
     record {
-      lo = given-within false 31 x (omega arith) f h;
-      hi = given-within true 31 x (omega arith) f h;
-      order = given-ordered 31 (exactOf x) .order;
+      width = w;
+      within =
+          span-within v 20000 20000 bias (bias + 32) (round up (suc v) (nat n)) (round-spelled up v (nat n))
+          (subst (Span bias (bias + 32)) (sym (whole-extent (round up (suc v) (nat n)) n (round-whole up v n (few-digits w h)))) (whole-span n h))
+          (omega (arith, w .high))
+          (omega (arith, w .high))
+          (omega (arith, w .high));
+    }
+
+pub whole-held : {v : ℕ} → Width v → (n : ℕ) → n < 2 ^ 32 → Held v (given (suc v) (nat n))
+unfolding rounded
+whole-held {v} w n h = record { lo = whole-in-range w false n h; hi = whole-in-range w true n h; order = given-ordered v (nat n) .order }
+
+pub double-held : {v : ℕ} → Width v → (x : Float) → T (fits binary64 x) → T (finite x) → Held v (given (suc v) (exactOf x))
+unfolding rounded
+double-held {v} w x f h =
+    record {
+      lo = record { width = w; within = given-within false v x (omega (arith, w .high)) f h };
+      hi = record { width = w; within = given-within true v x (omega (arith, w .high)) f h };
+      order = given-ordered v (exactOf x) .order;
     }

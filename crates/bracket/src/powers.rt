@@ -3,17 +3,18 @@ use crate::Bracket;
 use crate::products::product;
 use crate::values::whole;
 ghost use mathlib.Core.Path.{_≡_};
+ghost use Prim.Native.Nat.{suc};
 ghost use Rattle.bracket.specs.Rules.{power};
 ghost use Rattle.bracket.specs.Held.{Powers};
 
 // No factor gives 1; the last of n factors multiplies the power of the others.
-pub fn power(b: Bracket, n: u64) -> Bracket
-    requires { ⌜ Powers b n ⌝ }
-    ensures { λ r. ⌜ r ≡ power 32 b n ⌝ }
+pub fn power(v: u64, b: Bracket, n: u64) -> Bracket
+    requires { ⌜ Powers v b n ⌝ }
+    ensures { λ r. ⌜ r ≡ power (suc v) b n ⌝ }
 {
     if n == 0 {
-        whole(1)
+        whole(v, 1)
     } else {
-        product(power(b, n - 1), b)
+        product(v, power(v, b, n - 1), b)
     }
 }

@@ -1,12 +1,13 @@
--- P1 to P11 hold: the one theorem over the list of cases. Assumes nothing.
-use mathlib.Core.Path.{_≡_, refl, ap₂, _∙_}
+-- P1 to P11 hold, and P1 to P8 at 53 bits: the one theorem over the list of cases. Assumes nothing.
+use mathlib.Core.Path.{_≡_, ap₂, _∙_}
 use mathlib.Core.Bool.{false}
+use Prim.Native.Nat.{ℕ, suc}
+use lib.ListN.{drop}
 use Rattle.exact.specs.Fraction.{nat, parts, _⊖_}
 use Rattle.sheet.specs.declared.Sheet.{Sheet}
 use Rattle.sheet.specs.Number.{value}
 use Rattle.sheet.specs.Round.{down, up}
-use Rattle.sheet.proofs.Cases.{P1-down, P1-up, P2-down, P2-up, P3-down, P3-up, P4-down, P4-up, P5-down, P5-up, P6-down, P6-up, P7-down, P7-up, P8-down, P8-up}
-use Rattle.bracket.specs.declared.Bracket.{Bracket}
+use Rattle.sheet.proofs.Cases.{P1-down, P1-up, P2-down, P2-up, P3-down, P3-up, P4-down, P4-up, P5-down, P5-up, P6-down, P6-up, P7-down, P7-up, P8-down, P8-up, P1-down-53, P1-up-53, P2-down-53, P2-up-53, P3-down-53, P3-up-53, P4-down-53, P4-up-53, P5-down-53, P5-up-53, P6-down-53, P6-up-53, P7-down-53, P7-up-53, P8-down-53, P8-up-53}
 use Rattle.bracket.specs.Span.{Span, whole}
 use Rattle.bracket.specs.Rules.{ends, given, rounded, minus}
 use Rattle.bracket.proofs.Inclusion.{given-ordered}
@@ -16,44 +17,45 @@ use Rattle.bracket.proofs.Signs.{over-minus}
 use Rattle.series.proofs.Cases.{P9, P10}
 use Rattle.term.proofs.Cases.{row38-read}
 use Rattle.cases.specs.Case.{AllHold}
-use Rattle.cases.specs.Printed.{cases, between, small}
+use Rattle.cases.specs.Printed.{cases, between}
 
 -- a rounded span is its two roundings
-both : (A : Span) (lo hi : Sheet) → down 32 (A .low) ≡ lo → up 32 (A .high) ≡ hi → rounded 32 A ≡ between lo hi
+both : (w : ℕ) (A : Span) (lo hi : Sheet) → down w (A .low) ≡ lo → up w (A .high) ≡ hi → rounded w A ≡ between lo hi
 unfolding rounded
-both A lo hi p q = ap₂ between p q
+both w A lo hi p q = ap₂ between p q
 
 -- 1 less the bracket of 1/3: the difference needs two of the four results
-one-less-third : minus 32 (whole 1) (ends (given 32 (parts false 1 3))) ≡ between (small false 2863311530 32) (small false 2863311531 32)
+one-less-third : (v : ℕ) {lo hi : Sheet} → down (suc v) (nat 1 ⊖ value (up (suc v) (parts false 1 3))) ≡ lo → up (suc v) (nat 1 ⊖ value (down (suc v) (parts false 1 3))) ≡ hi
+    → minus (suc v) (whole 1) (ends (given (suc v) (parts false 1 3))) ≡ between lo hi
 unfolding rounded
-one-less-third =
-    rounded-≃ 31 (over-minus {A = whole 1} {B = ends (given 32 (parts false 1 3))} (point-ordered (nat 1)) (given-ordered 31 (parts false 1 3)))
-    ∙ ap₂ between P8-down P8-up
+one-less-third v p q =
+    rounded-≃ v (over-minus {A = whole 1} {B = ends (given (suc v) (parts false 1 3))} (point-ordered (nat 1)) (given-ordered v (parts false 1 3)))
+    ∙ ap₂ between p q
 
 pub all-hold : AllHold cases
 all-hold = (
-  both _ _ _ P1-down P1-up,
+  both 32 _ _ _ P1-down P1-up,
   (
-    both _ _ _ P2-down P2-up,
+    both 32 _ _ _ P2-down P2-up,
     (
-      both _ _ _ P3-down P3-up,
+      both 32 _ _ _ P3-down P3-up,
       (
-        both _ _ _ P4-down P4-up,
+        both 32 _ _ _ P4-down P4-up,
         (
-          both _ _ _ P5-down P5-up,
+          both 32 _ _ _ P5-down P5-up,
           (
-            both _ _ _ P6-down P6-up,
+            both 32 _ _ _ P6-down P6-up,
             (
-              both _ _ _ P7-down P7-up,
+              both 32 _ _ _ P7-down P7-up,
               (
-                one-less-third,
+                one-less-third 31 P8-down P8-up,
                 (
                   P9,
                   (
                     P10,
                     (
                       row38-read,
-                      tt,
+                      second-column,
                     ),
                   ),
                 ),
@@ -65,3 +67,30 @@ all-hold = (
     ),
   ),
 )
+  where
+    second-column : AllHold (drop 11 cases)
+    second-column = (
+      both 53 _ _ _ P1-down-53 P1-up-53,
+      (
+        both 53 _ _ _ P2-down-53 P2-up-53,
+        (
+          both 53 _ _ _ P3-down-53 P3-up-53,
+          (
+            both 53 _ _ _ P4-down-53 P4-up-53,
+            (
+              both 53 _ _ _ P5-down-53 P5-up-53,
+              (
+                both 53 _ _ _ P6-down-53 P6-up-53,
+                (
+                  both 53 _ _ _ P7-down-53 P7-up-53,
+                  (
+                    one-less-third 52 P8-down-53 P8-up-53,
+                    tt,
+                  ),
+                ),
+              ),
+            ),
+          ),
+        ),
+      ),
+    )

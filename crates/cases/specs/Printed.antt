@@ -1,4 +1,5 @@
--- The cases that document 01 prints as proved, P1 to P11, in its order. Assumes nothing.
+-- The cases that document 01 prints as proved, P1 to P11, in its order, and behind them the second column of P1 to P8, at 53 bits (document
+-- 02, d). Assumes nothing.
 use Prim.Native.Nat.{ℕ, _+_, _-_, _^_}
 use mathlib.Core.Bool.{Bool, true, false}
 use mathlib.Core.List.{List, [], _∷_}
@@ -37,4 +38,12 @@ cases =
     ∷ bracketIs (expneg 32 (whole 0)) (between (small false (2 ^ 31) 31) (small false (2 ^ 31) 31))
     ∷ bracketIs (lnRatio 32 (nat 322) (nat 322)) (between plainZero plainZero)
     ∷ termIs (termAt row38 0) fields38
+    ∷ bracketIs (given 53 (nat 1)) (between (small false 4503599627370496 52) (small false 4503599627370496 52))
+    ∷ bracketIs (given 53 (parts false 1 3)) (between (small false 6004799503160661 54) (small false 6004799503160662 54))
+    ∷ bracketIs (given 53 (parts true 1 3)) (between (small true 6004799503160662 54) (small true 6004799503160661 54))
+    ∷ bracketIs (given 53 (nat (2 ^ 32 + 1))) (between (small false 4503599628419072 20) (small false 4503599628419072 20))
+    ∷ bracketIs (given 53 (nat (2 ^ 33 - 1))) (between (small false 9007199253692416 20) (small false 9007199253692416 20))
+    ∷ bracketIs (given 53 (parts false 1 10)) (between (small false 7205759403792793 56) (small false 7205759403792794 56))
+    ∷ bracketIs (given 53 (nat 322)) (between (small false 5664683906301952 44) (small false 5664683906301952 44))
+    ∷ bracketIs (minus 53 (whole 1) (ends (given 53 (parts false 1 3)))) (between (small false 6004799503160661 53) (small false 6004799503160662 53))
     ∷ []

@@ -1,9 +1,11 @@
 // The exact parts of an f64.
 use sheet::Sheet;
 ghost use mathlib.Core.Path.{_≡_};
+ghost use Prim.Native.Nat.{suc};
 ghost use lib.Dec.{T};
 ghost use lib.Ieee.Scale.{finite};
 ghost use Rattle.sheet.specs.Round.{round};
+ghost use Rattle.sheet.specs.Range.{Width};
 ghost use Rattle.doubles.specs.Double.{exactOf};
 ghost use Rattle.doubles.specs.Decoded.{Decoded};
 
@@ -45,10 +47,10 @@ pub fn decode(x: f64) -> ExactParts
 }
 
 // An f64 as a given value: its exact value rounded once, up or down.
-pub fn given(up: bool, x: f64) -> Sheet
-    requires { ⌜ T (finite x) ⌝ }
-    ensures { λ r. ⌜ r ≡ round up 32 (exactOf x) ⌝ }
+pub fn given(v: u64, up: bool, x: f64) -> Sheet
+    requires { ⌜ Width v × T (finite x) ⌝ }
+    ensures { λ r. ⌜ r ≡ round up (suc v) (exactOf x) ⌝ }
 {
     let p = decode(x);
-    sheet::rounded(up, p.neg, p.m, false, p.e)
+    sheet::rounded(v, up, p.neg, p.m, false, p.e)
 }

@@ -1,5 +1,5 @@
 -- Every end that can be handed out is exactly an f64: a multiple of 2^-1074 below 2^1024 in size, for every sound table and every accepted
--- input, at every count of bits from 9 to 101. At 32 bits each of these brackets is held. Assumes nothing.
+-- input, at every count of bits from 9 to 101; and at either width each of these brackets is held. Assumes nothing.
 use mathlib.Core.Path.{_≡_}
 use mathlib.Core.Bool.{Bool, true, false}
 use mathlib.Core.List.{List}
@@ -11,7 +11,7 @@ use Rattle.exact.specs.Fraction.{Fraction, parts, _⊖_, _⊗_, _≼_, _≈_}
 use Rattle.exact.specs.Fraction.Order.{≈-≼-trans, ≼-≈-trans, ≈-sym, ≈-trans}
 use Rattle.exact.specs.Fraction.Parts.{parts-≈, ≼-parts, ≼-parts-zero, parts-nat}
 use Rattle.sheet.specs.Number.{bias}
-use Rattle.sheet.specs.Range.{Doubled}
+use Rattle.sheet.specs.Range.{Width, Doubled}
 use Rattle.doubles.specs.Handed.{DoubleValue}
 use Rattle.term.specs.Sound.{soundTable}
 use Rattle.bracket.specs.declared.Bracket.{Bracket}
@@ -101,36 +101,36 @@ module _ (v : ℕ) (digits : 8 ≤ v) (bits : v ≤ 100) where
         doubled-both _
         (summed-fine (le-refl (bias + 220)) (target-apart v bits (pressure-each table sound t d) (given-summed v (target-fine target f a)))) (omega arith) (omega arith)
 
--- ---- at 32 bits their exponents lie between -20,000 and 20,000
+-- ---- at either width their exponents lie between -20,000 and 20,000
 
-module _ (table : List ℕ) (sound : soundTable table ≡ true) {T : Fraction} (t : Temperature T) where
-  pub pressure-held : {rho : Fraction} → Density rho → PressureIn (pressure 32 table T rho)
+module _ {v : ℕ} (w : Width v) (table : List ℕ) (sound : soundTable table ≡ true) {T : Fraction} (t : Temperature T) where
+  pub pressure-held : {rho : Fraction} → Density rho → PressureIn v (pressure (suc v) table T rho)
   unfolding pressure
-  pressure-held d = pressure-in t d (sums-in table sound t d)
+  pressure-held d = pressure-in w t d (sums-in w table sound t d)
 
-  pub stiffness-held : {rho : Fraction} → Density rho → Held (stiffness 32 table T rho)
+  pub stiffness-held : {rho : Fraction} → Density rho → Held v (stiffness (suc v) table T rho)
   unfolding stiffness stiffnessOf
   stiffness-held d =
       let r = room in
-      combined-held _⊗_ _ _ (omega arith) (omega arith) (stiffnessOf-digits 31 (omega arith) t (sums-in table sound t d .ranged))
+      combined-held w _⊗_ _ _ (omega arith) (omega arith) (stiffnessOf-digits v (omega arith) t (sums-in w table sound t d .ranged))
 
-  pub gibbsGap-held : {liquid vapour : Fraction} → Density liquid → Density vapour → vapour ≼ liquid → Held (gibbsGap 32 table T liquid vapour)
+  pub gibbsGap-held : {liquid vapour : Fraction} → Density liquid → Density vapour → vapour ≼ liquid → Held v (gibbsGap (suc v) table T liquid vapour)
   unfolding gibbsGap gibbsGapOf
   gibbsGap-held l g above =
       let r = room in
-      combined-held _⊗_ _ _ (omega arith) (omega arith)
-      (gibbsGapOf-digits 31 (omega arith) t (omega arith) (sums-in table sound t l .ranged) (sums-in table sound t g .ranged) l g above)
+      combined-held w _⊗_ _ _ (omega arith) (omega arith)
+      (gibbsGapOf-digits v (omega arith) t (omega arith) (sums-in w table sound t l .ranged) (sums-in w table sound t g .ranged) l g above)
 
-  pub pressureGap-held : {liquid vapour : Fraction} → Density liquid → Density vapour → Held (pressureGap 32 table T liquid vapour)
+  pub pressureGap-held : {liquid vapour : Fraction} → Density liquid → Density vapour → Held v (pressureGap (suc v) table T liquid vapour)
   unfolding pressureGap
   pressureGap-held l g =
       let r = room in
-      combined-held _⊖_ _ _ (omega arith) (omega arith)
-      (summed-digits (pressures-apart 31 (omega arith) (pressure-each 31 (omega arith) (omega arith) table sound t l) (pressure-each 31 (omega arith) (omega arith) table sound t g)))
+      combined-held w _⊖_ _ _ (omega arith) (omega arith)
+      (summed-digits (pressures-apart v (omega arith) (pressure-each v (omega arith) (omega arith) table sound t l) (pressure-each v (omega arith) (omega arith) table sound t g)))
 
-  pub targetGap-held : {rho target : Fraction} → Density rho → DoubleValue target → Target target → Held (targetGap 32 table T rho target)
+  pub targetGap-held : {rho target : Fraction} → Density rho → DoubleValue target → Target target → Held v (targetGap (suc v) table T rho target)
   unfolding targetGap
   targetGap-held {target = target} d f a =
       let r = room in
-      combined-held _⊖_ _ _ (omega arith) (omega arith)
-      (summed-digits (target-apart 31 (omega arith) (pressure-each 31 (omega arith) (omega arith) table sound t d) (given-summed 31 (target-fine target f a))))
+      combined-held w _⊖_ _ _ (omega arith) (omega arith)
+      (summed-digits (target-apart v (omega arith) (pressure-each v (omega arith) (omega arith) table sound t d) (given-summed v (target-fine target f a))))

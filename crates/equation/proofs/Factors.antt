@@ -32,8 +32,8 @@ module _ {v l h : ℕ} {x : Fraction} (p : Plus v l h x) where
       go (inl z) = absurd (≼-not-≺ (≈→≼ (≈-trans (rw (z, zero-mul) at plain) (parts-zero false (2 ^ bias)))) (p .above))
       go (inr k) = k
 
-pub factor-of : (g : Bracket) → GIn g → Factor (ends g)
-factor-of g p =
+pub factor-of : {v : ℕ} (g : Bracket) → GIn v g → Factor (ends g)
+factor-of {v} g p =
     let r = room in
     let f = fall 57 (omega arith) in
     let a = mul-le-mul-right (2 ^ 57) (reached (p .each .low)) in

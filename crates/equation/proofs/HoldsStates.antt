@@ -1,6 +1,8 @@
--- What pressure, stiffness, Gibbs gap and the gaps are made of is held at 32 bits. Assumes nothing.
+-- What pressure, stiffness, Gibbs gap and the gaps are made of is held. Assumes nothing.
+use Prim.Native.Nat.{ℕ, suc}
 use native.Mathlib.Omega.{arith}
 use Rattle.exact.specs.Fraction.{Fraction, _⊕_, _⊖_, _⊗_, _≼_}
+use Rattle.sheet.specs.Range.{Width}
 use Rattle.bracket.specs.Span.{whole}
 use Rattle.bracket.specs.Rules.{ends, given, plus, times}
 use Rattle.bracket.specs.Held.{Held}
@@ -15,57 +17,60 @@ use Rattle.equation.proofs.Weaker.{plus-digits, summed-digits}
 use Rattle.equation.proofs.Ranges.{room, gasHeat-plus, rho-gas, densityHeat-plus, pressureFactor-digits, pressureOf-digits, twice, one-twice, stiffnessFactor-summed, zeroth-first, sumsApart-summed, logarithm-apart}
 use Rattle.equation.proofs.Holds.{combined-held}
 
-pub lnRatio-held : {liquid vapour : Fraction} → Density liquid → Density vapour → vapour ≼ liquid → Held (lnRatio 32 liquid vapour)
+pub lnRatio-held : {v : ℕ} → Width v → {liquid vapour : Fraction} → Density liquid → Density vapour → vapour ≼ liquid → Held v (lnRatio (suc v) liquid vapour)
 unfolding lnRatio lnScaled
-lnRatio-held l g above =
+lnRatio-held {v} w l g above =
     let r = room in
-    combined-held _⊕_ _ _ (omega arith) (omega arith) (summed-digits (lnRatio-summed 31 (omega arith) (omega arith) (g .thin) (l .dense) above))
+    combined-held w _⊕_ _ _ (omega arith) (omega arith) (summed-digits (lnRatio-summed v (omega arith) (omega arith) (g .thin) (l .dense) above))
 
-module _ {T : Fraction} (t : Temperature T) where
-  pub gasHeat-held : Held (gasHeat 32 T)
+module _ {v : ℕ} (w : Width v) {T : Fraction} (t : Temperature T) where
+  pub gasHeat-held : Held v (gasHeat (suc v) T)
   unfolding gasHeat
-  gasHeat-held = let r = room in combined-held _⊗_ _ _ (omega arith) (omega arith) (plus-digits (gasHeat-plus 31 (omega arith) t))
+  gasHeat-held = let r = room in combined-held w _⊗_ _ _ (omega arith) (omega arith) (plus-digits (gasHeat-plus v (omega arith) t))
 
   module _ {rho : Fraction} (d : Density rho) where
-    pub rho-gas-held : Held (times 32 (ends (given 32 rho)) (ends (given 32 gasConstant)))
-    rho-gas-held = let r = room in combined-held _⊗_ _ _ (omega arith) (omega arith) (plus-digits (rho-gas 31 (omega arith) t d))
+    pub rho-gas-held : Held v (times (suc v) (ends (given (suc v) rho)) (ends (given (suc v) gasConstant)))
+    rho-gas-held = let r = room in combined-held w _⊗_ _ _ (omega arith) (omega arith) (plus-digits (rho-gas v (omega arith) t d))
 
-    pub densityHeat-held : Held (densityHeat 32 T rho)
+    pub densityHeat-held : Held v (densityHeat (suc v) T rho)
     unfolding densityHeat
-    densityHeat-held = let r = room in combined-held _⊗_ _ _ (omega arith) (omega arith) (plus-digits (densityHeat-plus 31 (omega arith) t d))
+    densityHeat-held = let r = room in combined-held w _⊗_ _ _ (omega arith) (omega arith) (plus-digits (densityHeat-plus v (omega arith) t d))
 
-    pub pressure-in : {s : Sums} → SumsIn s → PressureIn (pressureOf 32 T rho s)
+    pub pressure-in : {s : Sums} → SumsIn v s → PressureIn v (pressureOf (suc v) T rho s)
     unfolding pressureOf
     pressure-in p =
         let r = room in
-        let x = pressureOf-digits 31 (omega arith) t d (p .ranged) in
-        record { held = combined-held _⊗_ _ _ (omega arith) (omega arith) x; each = x }
+        let x = pressureOf-digits v (omega arith) t d (p .ranged) in
+        record { held = combined-held w _⊗_ _ _ (omega arith) (omega arith) x; each = x }
 
-module _ {s : Sums} (p : SumsIn s) where
-  pub pressureFactor-held : Held (pressureFactor 32 s)
+module _ {v : ℕ} {s : Sums} (p : SumsIn v s) where
+  w : Width v
+  w = p .held .s0 .lo .width
+
+  pub pressureFactor-held : Held v (pressureFactor (suc v) s)
   unfolding pressureFactor
-  pressureFactor-held = let r = room in combined-held _⊕_ _ _ (omega arith) (omega arith) (pressureFactor-digits 31 (omega arith) (p .ranged))
+  pressureFactor-held = let r = room in combined-held w _⊕_ _ _ (omega arith) (omega arith) (pressureFactor-digits v (omega arith) (p .ranged))
 
-  pub twice-held : Held (times 32 (whole 2) (ends (s .s1)))
-  twice-held = let r = room in combined-held _⊗_ _ _ (omega arith) (omega arith) (summed-digits (twice 31 (omega arith) (p .ranged)))
+  pub twice-held : Held v (times (suc v) (whole 2) (ends (s .s1)))
+  twice-held = let r = room in combined-held w _⊗_ _ _ (omega arith) (omega arith) (summed-digits (twice v (omega arith) (p .ranged)))
 
-  pub one-twice-held : Held (plus 32 (whole 1) (ends (times 32 (whole 2) (ends (s .s1)))))
-  one-twice-held = let r = room in combined-held _⊕_ _ _ (omega arith) (omega arith) (summed-digits (one-twice 31 (omega arith) (p .ranged)))
+  pub one-twice-held : Held v (plus (suc v) (whole 1) (ends (times (suc v) (whole 2) (ends (s .s1)))))
+  one-twice-held = let r = room in combined-held w _⊕_ _ _ (omega arith) (omega arith) (summed-digits (one-twice v (omega arith) (p .ranged)))
 
-  pub stiffnessFactor-held : Held (stiffnessFactor 32 s)
+  pub stiffnessFactor-held : Held v (stiffnessFactor (suc v) s)
   unfolding stiffnessFactor
-  stiffnessFactor-held = let r = room in combined-held _⊕_ _ _ (omega arith) (omega arith) (summed-digits (stiffnessFactor-summed 31 (omega arith) (p .ranged)))
+  stiffnessFactor-held = let r = room in combined-held w _⊕_ _ _ (omega arith) (omega arith) (summed-digits (stiffnessFactor-summed v (omega arith) (p .ranged)))
 
-  pub zeroth-first-held : Held (plus 32 (ends (s .s0)) (ends (s .s1)))
-  zeroth-first-held = let r = room in combined-held _⊕_ _ _ (omega arith) (omega arith) (summed-digits (zeroth-first 31 (omega arith) (p .ranged)))
+  pub zeroth-first-held : Held v (plus (suc v) (ends (s .s0)) (ends (s .s1)))
+  zeroth-first-held = let r = room in combined-held w _⊕_ _ _ (omega arith) (omega arith) (summed-digits (zeroth-first v (omega arith) (p .ranged)))
 
-module _ {x y : Sums} (p : SumsIn x) (q : SumsIn y) where
-  pub sumsApart-held : Held (sumsApart 32 x y)
+module _ {v : ℕ} {x y : Sums} (p : SumsIn v x) (q : SumsIn v y) where
+  pub sumsApart-held : Held v (sumsApart (suc v) x y)
   unfolding sumsApart
-  sumsApart-held = let r = room in combined-held _⊖_ _ _ (omega arith) (omega arith) (summed-digits (sumsApart-summed 31 (omega arith) (p .ranged) (q .ranged)))
+  sumsApart-held = let r = room in combined-held (p .held .s0 .lo .width) _⊖_ _ _ (omega arith) (omega arith) (summed-digits (sumsApart-summed v (omega arith) (p .ranged) (q .ranged)))
 
   pub logarithm-apart-held : {liquid vapour : Fraction} → Density liquid → Density vapour → vapour ≼ liquid
-      → Held (plus 32 (ends (lnRatio 32 liquid vapour)) (ends (sumsApart 32 x y)))
+      → Held v (plus (suc v) (ends (lnRatio (suc v) liquid vapour)) (ends (sumsApart (suc v) x y)))
   logarithm-apart-held l g above =
       let r = room in
-      combined-held _⊕_ _ _ (omega arith) (omega arith) (summed-digits (logarithm-apart 31 (omega arith) (p .ranged) (q .ranged) (omega arith) l g above))
+      combined-held (p .held .s0 .lo .width) _⊕_ _ _ (omega arith) (omega arith) (summed-digits (logarithm-apart v (omega arith) (p .ranged) (q .ranged) (omega arith) l g above))

@@ -1,12 +1,13 @@
--- The sums over a table at 32 bits are held and in range, term by term. Assumes nothing.
+-- The sums over a table are held and in range, term by term. Assumes nothing.
 use mathlib.Core.Path.{_≡_}
 use mathlib.Core.Bool.{true}
 use mathlib.Core.List.{List}
-use Prim.Native.Nat.{ℕ, zero, suc, _+_, _-_, _≤_}
+use Prim.Native.Nat.{ℕ, zero, suc, _+_, _-_, _*_, _≤_}
 use native.Mathlib.Nat.{le-trans, le-refl}
 use native.Mathlib.Omega.{arith}
 use Rattle.exact.specs.Fraction.{Fraction, _⊕_}
 use Rattle.sheet.specs.Number.{bias}
+use Rattle.sheet.specs.Range.{Width}
 use Rattle.term.specs.declared.Term.{Term}
 use Rattle.term.specs.Bounds.{Bounds}
 use Rattle.term.specs.Packed.{countTerms}
@@ -26,37 +27,40 @@ use Rattle.equation.proofs.Ranges.{room, sumsFirst-summed, sums-ranged}
 use Rattle.equation.proofs.Holds.{combined-held, delta-in, tau-in, g-in, e-in, v-in, w-in, addend1-held, addend2-held}
 
 -- one term's addends
-module _ (term : Term) (a b : Bracket) (s : Bounds term) (p : DeltaIn a) (q : TauIn b) where
-  pub addends-held : AllHeld (addends 32 term a b)
+module _ {v : ℕ} (term : Term) (a b : Bracket) (s : Bounds term) (p : DeltaIn v a) (q : TauIn v b) where
+  pub addends-held : AllHeld v (addends (suc v) term a b)
   unfolding addends addendsOf
   addends-held =
       let g = g-in a p (term .c) (s .c-below) in
-      let v = v-in a b p q term s _ (e-in (term .c) (s .c-below) _ g) in
-      let w = w-in _ g (term .d) (term .c) (s .d-above) (s .d-below) (s .c-below) in
-      record { s0 = v .held; s1 = addend1-held _ w _ g _ v; s2 = addend2-held _ w _ g _ v (term .c) (s .c-below) }
+      let tv = v-in a b p q term s _ (e-in (term .c) (s .c-below) _ g) in
+      let tw = w-in _ g (term .d) (term .c) (s .d-above) (s .d-below) (s .c-below) in
+      record { s0 = tv .held; s1 = addend1-held _ tw _ g _ tv; s2 = addend2-held _ tw _ g _ tv (term .c) (s .c-below) }
 
-module _ (table : List ℕ) (sound : soundTable table ≡ true) (a b : Bracket) (p : DeltaIn a) (q : TauIn b) where
+module _ {v : ℕ} (table : List ℕ) (sound : soundTable table ≡ true) (a b : Bracket) (p : DeltaIn v a) (q : TauIn v b) where
+  w : Width v
+  w = p .held .lo .width
+
   few : countTerms table ≤ 64
   few = let w = sound-whole table sound in let m = w .most in let e = w .nines in omega arith
 
-  first-summed : (n : ℕ) → n ≤ countTerms table → EachSum (Summed 31 (bias - 697) (bias + 123 + n)) (sumsFirst 32 table a b n)
-  first-summed n l = sumsFirst-summed 31 (omega arith) (omega arith) table a b (p .each) (q .each) n (λ k i. sound-bounds table sound k (le-trans i l))
+  first-summed : (n : ℕ) → n ≤ countTerms table → EachSum (Summed v (bias - (573 + 4 * v)) (bias + 123 + n)) (sumsFirst (suc v) table a b n)
+  first-summed n l = sumsFirst-summed v (omega arith) (omega arith) table a b (p .each) (q .each) n (λ k i. sound-bounds table sound k (le-trans i l))
 
-  one-held : (A B : Span) (n : ℕ) → n ≤ countTerms table → Each (Summed 31 (bias - 697) (bias + 123 + n)) (ends (plus 32 A B)) → Held (plus 32 A B)
-  one-held A B n l e = let r = room in let f = few in combined-held _⊕_ A B (omega arith) (omega arith) (summed-digits e)
+  one-held : (A B : Span) (n : ℕ) → n ≤ countTerms table → Each (Summed v (bias - (573 + 4 * v)) (bias + 123 + n)) (ends (plus (suc v) A B)) → Held v (plus (suc v) A B)
+  one-held A B n l e = let r = room in let f = few in combined-held w _⊕_ A B (omega arith) (omega arith) (summed-digits e)
 
-  held-by : (n : ℕ) → n ≤ countTerms table → EachSum (Summed 31 (bias - 697) (bias + 123 + n)) (sumsFirst 32 table a b n) → AllHeld (sumsFirst 32 table a b n)
+  held-by : (n : ℕ) → n ≤ countTerms table → EachSum (Summed v (bias - (573 + 4 * v)) (bias + 123 + n)) (sumsFirst (suc v) table a b n) → AllHeld v (sumsFirst (suc v) table a b n)
   unfolding sumsFirst noSums plusEach
-  held-by zero l e = let h = whole-held 0 (omega arith) in record { s0 = h; s1 = h; s2 = h }
+  held-by zero l e = let h = whole-held w 0 (omega arith) in record { s0 = h; s1 = h; s2 = h }
   held-by (suc n) l e = record { s0 = one-held _ _ (suc n) l (e .s0); s1 = one-held _ _ (suc n) l (e .s1); s2 = one-held _ _ (suc n) l (e .s2) }
 
-  pub first-held : (n : ℕ) → n ≤ countTerms table → AllHeld (sumsFirst 32 table a b n)
+  pub first-held : (n : ℕ) → n ≤ countTerms table → AllHeld v (sumsFirst (suc v) table a b n)
   first-held n l = held-by n l (first-summed n l)
 
-pub sums-in : (table : List ℕ) → soundTable table ≡ true → {T rho : Fraction} → Temperature T → Density rho → SumsIn (sums 32 table T rho)
+pub sums-in : {v : ℕ} → Width v → (table : List ℕ) → soundTable table ≡ true → {T rho : Fraction} → Temperature T → Density rho → SumsIn v (sums (suc v) table T rho)
 unfolding sums
-sums-in table sound t d =
+sums-in {v} w table sound t d =
     record {
-      held = first-held table sound _ _ (delta-in d) (tau-in t) (countTerms table) (le-refl _);
-      ranged = sums-ranged 31 (omega arith) (omega arith) table sound t d;
+      held = first-held table sound _ _ (delta-in w d) (tau-in w t) (countTerms table) (le-refl _);
+      ranged = sums-ranged v (omega arith) (omega arith) table sound t d;
     }

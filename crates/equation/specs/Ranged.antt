@@ -1,6 +1,6 @@
--- What the code at 32 bits asks of the brackets that it hands on: held, and between powers of two that every sound table and every accepted
--- input keep to. Assumes nothing.
-use Prim.Native.Nat.{ℕ, _+_, _-_, _*_}
+-- What the code asks of the brackets of suc v bits that it hands on: held, and between powers of two that every sound table and every
+-- accepted input keep to. Assumes nothing.
+use Prim.Native.Nat.{ℕ, suc, _+_, _-_, _*_}
 use Rattle.exact.specs.Fraction.{Fraction, nat, _≼_}
 use Rattle.sheet.specs.Number.{bias}
 use Rattle.bracket.specs.declared.Bracket.{Bracket}
@@ -17,39 +17,39 @@ pub record UpTo (n : ℕ) (x : Fraction) : Type 0 where
   pub high : x ≼ nat n
 
 -- held, and what is known of both ends
-pub record HeldAs (P : Fraction → Type 0) (b : Bracket) : Type 0 where
-  pub held : Held b
+pub record HeldAs (v : ℕ) (P : Fraction → Type 0) (b : Bracket) : Type 0 where
+  pub held : Held v b
   pub each : Each P (ends b)
 
 -- from 2^-19 to 2^2
-abbrev pub DeltaIn : Bracket → Type 0
-DeltaIn delta = HeldAs (Plus 31 (bias - 19) (bias + 2)) delta
+abbrev pub DeltaIn : ℕ → Bracket → Type 0
+DeltaIn v delta = HeldAs v (Plus v (bias - 19) (bias + 2)) delta
 
 -- from 2^-2 to 2^2
-abbrev pub TauIn : Bracket → Type 0
-TauIn tau = HeldAs (Plus 31 (bias - 2) (bias + 2)) tau
+abbrev pub TauIn : ℕ → Bracket → Type 0
+TauIn v tau = HeldAs v (Plus v (bias - 2) (bias + 2)) tau
 
 -- a power c of delta: from 2^-57 to 2^6
-abbrev pub GIn : Bracket → Type 0
-GIn g = HeldAs (Plus 31 (bias - 57) (bias + 6)) g
+abbrev pub GIn : ℕ → Bracket → Type 0
+GIn v g = HeldAs v (Plus v (bias - 57) (bias + 6)) g
 
 -- from 2^-129 to 1
-abbrev pub EIn : Bracket → Type 0
-EIn e = HeldAs (Positive (bias - 129) bias) e
+abbrev pub EIn : ℕ → Bracket → Type 0
+EIn v e = HeldAs v (Positive (bias - 129) bias) e
 
 -- zero or from 2^-516 to 2^97
-abbrev pub VIn : Bracket → Type 0
-VIn tv = HeldAs (Digited 31 (bias - 516) (bias + 97)) tv
+abbrev pub VIn : ℕ → Bracket → Type 0
+VIn v tv = HeldAs v (Digited v (bias - 516) (bias + 97)) tv
 
--- zero or from 2^-32 to 2^12
-abbrev pub WIn : Bracket → Type 0
-WIn tw = HeldAs (Digited 31 (bias - 32) (bias + 12)) tw
+-- zero or from 2^-(v + 1) to 2^12
+abbrev pub WIn : ℕ → Bracket → Type 0
+WIn v tw = HeldAs v (Digited v (bias - suc v) (bias + 12)) tw
 
 -- each of the three is held
-pub record AllHeld (s : Sums) : Type 0 where
-  pub s0 : Held (s .s0)
-  pub s1 : Held (s .s1)
-  pub s2 : Held (s .s2)
+pub record AllHeld (v : ℕ) (s : Sums) : Type 0 where
+  pub s0 : Held v (s .s0)
+  pub s1 : Held v (s .s1)
+  pub s2 : Held v (s .s2)
 
 -- both ends of each of the three
 pub record EachSum (P : Fraction → Type 0) (s : Sums) : Type 0 where
@@ -61,11 +61,11 @@ pub record EachSum (P : Fraction → Type 0) (s : Sums) : Type 0 where
 abbrev pub Ranged : ℕ → Sums → Type 0
 Ranged v s = EachSum (Summed v (bias - (573 + 4 * v)) (bias + 187)) s
 
--- the sums as the code at 32 bits takes them
-pub record SumsIn (s : Sums) : Type 0 where
-  pub held : AllHeld s
-  pub ranged : Ranged 31 s
+-- the sums as the code takes them
+pub record SumsIn (v : ℕ) (s : Sums) : Type 0 where
+  pub held : AllHeld v s
+  pub ranged : Ranged v s
 
--- a pressure: zero or from 2^-32 to 2^219
-abbrev pub PressureIn : Bracket → Type 0
-PressureIn p = HeldAs (Digited 31 (bias - 32) (bias + 219)) p
+-- a pressure: zero or from 2^-(v + 1) to 2^219
+abbrev pub PressureIn : ℕ → Bracket → Type 0
+PressureIn v p = HeldAs v (Digited v (bias - suc v) (bias + 219)) p

@@ -4,85 +4,85 @@ use crate::inputs;
 use bracket::Bracket;
 use term::Term;
 ghost use mathlib.Core.Path.{_≡_};
-ghost use Prim.Native.Nat.{_<_, _*_};
+ghost use Prim.Native.Nat.{suc, _<_, _*_};
 ghost use Rattle.term.specs.Bounds.{Bounds};
-ghost use Rattle.equation.specs.Rules.{factorE, termV, termW, factorW, factorS2, addendsOf, addends, plusEach};
+ghost use Rattle.equation.specs.Rules.{factorE, termV, termW, factorW, factorS2, addendsOf, addends};
 ghost use Rattle.equation.specs.Ranged.{DeltaIn, TauIn, GIn, EIn, VIn, WIn};
 
 // For c = 0 there is no exponential.
-fn factor_e(c: u64, g: Bracket) -> Bracket
-    requires { ⌜ (c < 4) × GIn g ⌝ }
-    ensures { λ r. ⌜ r ≡ factorE 32 c g ⌝ }
+fn factor_e(v: u64, c: u64, g: Bracket) -> Bracket
+    requires { ⌜ (c < 4) × GIn v g ⌝ }
+    ensures { λ r. ⌜ r ≡ factorE (suc v) c g ⌝ }
 {
     if 0 < c {
-        series::expneg(g)
+        series::expneg(v, g)
     } else {
-        bracket::whole(1)
+        bracket::whole(v, 1)
     }
 }
 
-fn term_v(term: Term, delta: Bracket, tau: Bracket, e: Bracket) -> Bracket
-    requires { ⌜ (Bounds term × DeltaIn delta) × (TauIn tau × EIn e) ⌝ }
-    ensures { λ r. ⌜ r ≡ termV 32 term delta tau e ⌝ }
+fn term_v(v: u64, term: Term, delta: Bracket, tau: Bracket, e: Bracket) -> Bracket
+    requires { ⌜ (Bounds term × DeltaIn v delta) × (TauIn v tau × EIn v e) ⌝ }
+    ensures { λ r. ⌜ r ≡ termV (suc v) term delta tau e ⌝ }
 {
     let d = term.d;
     let t = term.t;
-    let coefficient = inputs::coefficient(term);
-    let by_delta = bracket::product(coefficient, bracket::power(delta, d));
-    let by_tau = bracket::product(by_delta, bracket::power(tau, t));
-    bracket::product(by_tau, e)
+    let coefficient = inputs::coefficient(v, term);
+    let by_delta = bracket::product(v, coefficient, bracket::power(v, delta, d));
+    let by_tau = bracket::product(v, by_delta, bracket::power(v, tau, t));
+    bracket::product(v, by_tau, e)
 }
 
 // For c = 0 it is d.
-fn term_w(d: u64, c: u64, g: Bracket) -> Bracket
-    requires { ⌜ ((0 < d) × (d < 16)) × ((c < 4) × GIn g) ⌝ }
-    ensures { λ r. ⌜ r ≡ termW 32 d c g ⌝ }
+fn term_w(v: u64, d: u64, c: u64, g: Bracket) -> Bracket
+    requires { ⌜ ((0 < d) × (d < 16)) × ((c < 4) × GIn v g) ⌝ }
+    ensures { λ r. ⌜ r ≡ termW (suc v) d c g ⌝ }
 {
     if c == 0 {
-        bracket::whole(d)
+        bracket::whole(v, d)
     } else {
-        let part = bracket::product(bracket::whole(c), g);
-        bracket::difference(bracket::whole(d), part)
+        let part = bracket::product(v, bracket::whole(v, c), g);
+        bracket::difference(v, bracket::whole(v, d), part)
     }
 }
 
-fn factor_w(tw: Bracket) -> Bracket
-    requires { ⌜ WIn tw ⌝ }
-    ensures { λ r. ⌜ r ≡ factorW 32 tw ⌝ }
+fn factor_w(v: u64, tw: Bracket) -> Bracket
+    requires { ⌜ WIn v tw ⌝ }
+    ensures { λ r. ⌜ r ≡ factorW (suc v) tw ⌝ }
 {
-    let less = bracket::difference(tw, bracket::whole(1));
-    bracket::product(tw, less)
+    let less = bracket::difference(v, tw, bracket::whole(v, 1));
+    bracket::product(v, tw, less)
 }
 
 // For c = 0 the last part is absent.
-fn factor_s2(c: u64, g: Bracket, tw: Bracket) -> Bracket
-    requires { ⌜ (c < 4) × (GIn g × WIn tw) ⌝ }
-    ensures { λ r. ⌜ r ≡ factorS2 32 c g tw ⌝ }
+fn factor_s2(v: u64, c: u64, g: Bracket, tw: Bracket) -> Bracket
+    requires { ⌜ (c < 4) × (GIn v g × WIn v tw) ⌝ }
+    ensures { λ r. ⌜ r ≡ factorS2 (suc v) c g tw ⌝ }
 {
     if 1 <= c {
-        let part = bracket::product(bracket::whole(c * c), g);
-        bracket::difference(factor_w(tw), part)
+        let part = bracket::product(v, bracket::whole(v, c * c), g);
+        bracket::difference(v, factor_w(v, tw), part)
     } else {
-        factor_w(tw)
+        factor_w(v, tw)
     }
 }
 
-fn addends_of(c: u64, g: Bracket, tv: Bracket, tw: Bracket) -> Sums
-    requires { ⌜ ((c < 4) × GIn g) × (VIn tv × WIn tw) ⌝ }
-    ensures { λ r. ⌜ r ≡ addendsOf 32 c g tv tw ⌝ }
+fn addends_of(v: u64, c: u64, g: Bracket, tv: Bracket, tw: Bracket) -> Sums
+    requires { ⌜ ((c < 4) × GIn v g) × (VIn v tv × WIn v tw) ⌝ }
+    ensures { λ r. ⌜ r ≡ addendsOf (suc v) c g tv tw ⌝ }
 {
-    let s1 = bracket::product(tv, tw);
-    let s2 = bracket::product(tv, factor_s2(c, g, tw));
+    let s1 = bracket::product(v, tv, tw);
+    let s2 = bracket::product(v, tv, factor_s2(v, c, g, tw));
     Sums { s0: tv, s1, s2 }
 }
 
-pub fn addends(term: Term, delta: Bracket, tau: Bracket) -> Sums
-    requires { ⌜ Bounds term × (DeltaIn delta × TauIn tau) ⌝ }
-    ensures { λ r. ⌜ r ≡ addends 32 term delta tau ⌝ }
+pub fn addends(v: u64, term: Term, delta: Bracket, tau: Bracket) -> Sums
+    requires { ⌜ Bounds term × (DeltaIn v delta × TauIn v tau) ⌝ }
+    ensures { λ r. ⌜ r ≡ addends (suc v) term delta tau ⌝ }
 {
     let c = term.c;
     let d = term.d;
-    let g = bracket::power(delta, c);
-    let tv = term_v(term, delta, tau, factor_e(c, g));
-    addends_of(c, g, tv, term_w(d, c, g))
+    let g = bracket::power(v, delta, c);
+    let tv = term_v(v, term, delta, tau, factor_e(v, c, g));
+    addends_of(v, c, g, tv, term_w(v, d, c, g))
 }

@@ -2,41 +2,44 @@
 use bracket::Bracket;
 use term::Term;
 ghost use mathlib.Core.Path.{_≡_};
+ghost use Prim.Native.Nat.{suc};
 ghost use lib.Dec.{T};
+ghost use Rattle.sheet.specs.Range.{Width};
 ghost use Rattle.doubles.specs.Double.{exactOf};
 ghost use Rattle.doubles.specs.Range.{acceptedTemperature, acceptedDensity};
 ghost use Rattle.equation.specs.Rules.{delta, tau, coefficient, gasHeat};
 
-pub fn delta(rho: f64) -> Bracket
-    requires { ⌜ T (acceptedDensity rho) ⌝ }
-    ensures { λ r. ⌜ r ≡ delta 32 (exactOf rho) ⌝ }
+pub fn delta(v: u64, rho: f64) -> Bracket
+    requires { ⌜ Width v × T (acceptedDensity rho) ⌝ }
+    ensures { λ r. ⌜ r ≡ delta (suc v) (exactOf rho) ⌝ }
 {
-    let density = bracket::given(rho);
-    let critical = bracket::whole(322);
-    bracket::quotient(density, critical)
+    let density = bracket::given(v, rho);
+    let critical = bracket::whole(v, 322);
+    bracket::quotient(v, density, critical)
 }
 
-pub fn tau(t: f64) -> Bracket
-    requires { ⌜ T (acceptedTemperature t) ⌝ }
-    ensures { λ r. ⌜ r ≡ tau 32 (exactOf t) ⌝ }
+pub fn tau(v: u64, t: f64) -> Bracket
+    requires { ⌜ Width v × T (acceptedTemperature t) ⌝ }
+    ensures { λ r. ⌜ r ≡ tau (suc v) (exactOf t) ⌝ }
 {
-    let critical = bracket::given_ratio(false, 64714, 100);
-    let temperature = bracket::given(t);
-    bracket::quotient(critical, temperature)
+    let critical = bracket::given_ratio(v, false, 64714, 100);
+    let temperature = bracket::given(v, t);
+    bracket::quotient(v, critical, temperature)
 }
 
 // In units of ten to the minus 16.
-pub fn coefficient(term: Term) -> Bracket
-    ensures { λ r. ⌜ r ≡ coefficient 32 term ⌝ }
+pub fn coefficient(v: u64, term: Term) -> Bracket
+    requires { ⌜ Width v ⌝ }
+    ensures { λ r. ⌜ r ≡ coefficient (suc v) term ⌝ }
 {
-    bracket::given_ratio(term.negative, term.magnitude, 10_000_000_000_000_000)
+    bracket::given_ratio(v, term.negative, term.magnitude, 10_000_000_000_000_000)
 }
 
-pub fn gas_heat(t: f64) -> Bracket
-    requires { ⌜ T (acceptedTemperature t) ⌝ }
-    ensures { λ r. ⌜ r ≡ gasHeat 32 (exactOf t) ⌝ }
+pub fn gas_heat(v: u64, t: f64) -> Bracket
+    requires { ⌜ Width v × T (acceptedTemperature t) ⌝ }
+    ensures { λ r. ⌜ r ≡ gasHeat (suc v) (exactOf t) ⌝ }
 {
-    let gas = bracket::given_ratio(false, 46151805, 100000);
-    let temperature = bracket::given(t);
-    bracket::product(gas, temperature)
+    let gas = bracket::given_ratio(v, false, 46151805, 100000);
+    let temperature = bracket::given(v, t);
+    bracket::product(v, gas, temperature)
 }

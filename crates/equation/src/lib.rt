@@ -1,4 +1,4 @@
-// The equation by the step rules of document 01 at 32 bits: the three sums over a table's terms in one pass, and pressure, stiffness,
+// The equation by the step rules of document 01 at 32 or 53 bits: the three sums over a table's terms in one pass, and pressure, stiffness,
 // Gibbs gap and the gaps of pressure by them. Every function's contract is the rule itself. Nothing here writes to the lent bytes.
 use bracket::Bracket;
 

@@ -4,7 +4,9 @@ use crate::Sums;
 use crate::inputs;
 use bracket::Bracket;
 ghost use mathlib.Core.Path.{_≡_};
+ghost use Prim.Native.Nat.{suc};
 ghost use lib.Dec.{T};
+ghost use Rattle.sheet.specs.Range.{Width};
 ghost use Rattle.doubles.specs.Double.{exactOf};
 ghost use Rattle.doubles.specs.Range.{acceptedTemperature, acceptedDensity, acceptedTarget};
 ghost use Rattle.bracket.specs.Rules.{ends, given, minus};
@@ -13,85 +15,85 @@ ghost use Rattle.equation.specs.Rules.{densityHeat, pressureFactor, stif
 ghost use Rattle.equation.specs.Ranged.{SumsIn, PressureIn};
 
 // (rho times R) times T
-fn density_heat(t: f64, rho: f64) -> Bracket
-    requires { ⌜ T (acceptedTemperature t) × T (acceptedDensity rho) ⌝ }
-    ensures { λ r. ⌜ r ≡ densityHeat 32 (exactOf t) (exactOf rho) ⌝ }
+fn density_heat(v: u64, t: f64, rho: f64) -> Bracket
+    requires { ⌜ Width v × T (acceptedTemperature t) × T (acceptedDensity rho) ⌝ }
+    ensures { λ r. ⌜ r ≡ densityHeat (suc v) (exactOf t) (exactOf rho) ⌝ }
 {
-    let density = bracket::given(rho);
-    let gas = bracket::given_ratio(false, 46151805, 100000);
-    let temperature = bracket::given(t);
-    bracket::product(bracket::product(density, gas), temperature)
+    let density = bracket::given(v, rho);
+    let gas = bracket::given_ratio(v, false, 46151805, 100000);
+    let temperature = bracket::given(v, t);
+    bracket::product(v, bracket::product(v, density, gas), temperature)
 }
 
 // 1 + S1
-fn pressure_factor(s: Sums) -> Bracket
-    requires { ⌜ SumsIn s ⌝ }
-    ensures { λ r. ⌜ r ≡ pressureFactor 32 s ⌝ }
+fn pressure_factor(v: u64, s: Sums) -> Bracket
+    requires { ⌜ SumsIn v s ⌝ }
+    ensures { λ r. ⌜ r ≡ pressureFactor (suc v) s ⌝ }
 {
-    let one = bracket::whole(1);
-    bracket::sum(one, s.s1)
+    let one = bracket::whole(v, 1);
+    bracket::sum(v, one, s.s1)
 }
 
 // (1 + (2 times S1)) + S2
-fn stiffness_factor(s: Sums) -> Bracket
-    requires { ⌜ SumsIn s ⌝ }
-    ensures { λ r. ⌜ r ≡ stiffnessFactor 32 s ⌝ }
+fn stiffness_factor(v: u64, s: Sums) -> Bracket
+    requires { ⌜ SumsIn v s ⌝ }
+    ensures { λ r. ⌜ r ≡ stiffnessFactor (suc v) s ⌝ }
 {
-    let one = bracket::whole(1);
-    let twice = bracket::product(bracket::whole(2), s.s1);
-    bracket::sum(bracket::sum(one, twice), s.s2)
+    let one = bracket::whole(v, 1);
+    let twice = bracket::product(v, bracket::whole(v, 2), s.s1);
+    bracket::sum(v, bracket::sum(v, one, twice), s.s2)
 }
 
 // (S0 + S1) of the liquid less (S0 + S1) of the vapour
-fn sums_apart(l: Sums, g: Sums) -> Bracket
-    requires { ⌜ SumsIn l × SumsIn g ⌝ }
-    ensures { λ r. ⌜ r ≡ sumsApart 32 l g ⌝ }
+fn sums_apart(v: u64, l: Sums, g: Sums) -> Bracket
+    requires { ⌜ SumsIn v l × SumsIn v g ⌝ }
+    ensures { λ r. ⌜ r ≡ sumsApart (suc v) l g ⌝ }
 {
-    let of_liquid = bracket::sum(l.s0, l.s1);
-    let of_vapour = bracket::sum(g.s0, g.s1);
-    bracket::difference(of_liquid, of_vapour)
+    let of_liquid = bracket::sum(v, l.s0, l.s1);
+    let of_vapour = bracket::sum(v, g.s0, g.s1);
+    bracket::difference(v, of_liquid, of_vapour)
 }
 
-pub fn pressure_of(t: f64, rho: f64, s: Sums) -> Bracket
-    requires { ⌜ (T (acceptedTemperature t) × T (acceptedDensity rho)) × SumsIn s ⌝ }
-    ensures { λ r. ⌜ r ≡ pressureOf 32 (exactOf t) (exactOf rho) s ⌝ }
+pub fn pressure_of(v: u64, t: f64, rho: f64, s: Sums) -> Bracket
+    requires { ⌜ (T (acceptedTemperature t) × T (acceptedDensity rho)) × SumsIn v s ⌝ }
+    ensures { λ r. ⌜ r ≡ pressureOf (suc v) (exactOf t) (exactOf rho) s ⌝ }
 {
-    let heat = density_heat(t, rho);
-    bracket::product(heat, pressure_factor(s))
+    let heat = density_heat(v, t, rho);
+    bracket::product(v, heat, pressure_factor(v, s))
 }
 
-pub fn stiffness_of(t: f64, s: Sums) -> Bracket
-    requires { ⌜ T (acceptedTemperature t) × SumsIn s ⌝ }
-    ensures { λ r. ⌜ r ≡ stiffnessOf 32 (exactOf t) s ⌝ }
+pub fn stiffness_of(v: u64, t: f64, s: Sums) -> Bracket
+    requires { ⌜ T (acceptedTemperature t) × SumsIn v s ⌝ }
+    ensures { λ r. ⌜ r ≡ stiffnessOf (suc v) (exactOf t) s ⌝ }
 {
-    let heat = inputs::gas_heat(t);
-    bracket::product(heat, stiffness_factor(s))
+    let heat = inputs::gas_heat(v, t);
+    bracket::product(v, heat, stiffness_factor(v, s))
 }
 
 // The sums are those of the liquid and of the vapour, whose density is at most the liquid's.
-pub fn gibbs_gap_of(t: f64, liquid: f64, vapour: f64, l: Sums, g: Sums) -> Bracket
-    requires { ⌜ T (acceptedTemperature t) × Pair liquid vapour × SumsIn l × SumsIn g ⌝ }
-    ensures { λ r. ⌜ r ≡ gibbsGapOf 32 (exactOf t) (exactOf liquid) (exactOf vapour) l g ⌝ }
+pub fn gibbs_gap_of(v: u64, t: f64, liquid: f64, vapour: f64, l: Sums, g: Sums) -> Bracket
+    requires { ⌜ T (acceptedTemperature t) × Pair liquid vapour × SumsIn v l × SumsIn v g ⌝ }
+    ensures { λ r. ⌜ r ≡ gibbsGapOf (suc v) (exactOf t) (exactOf liquid) (exactOf vapour) l g ⌝ }
 {
-    let heat = inputs::gas_heat(t);
-    let logarithm = series::ln_ratio(liquid, vapour);
-    let apart = sums_apart(l, g);
-    bracket::product(heat, bracket::sum(logarithm, apart))
+    let heat = inputs::gas_heat(v, t);
+    let logarithm = series::ln_ratio(v, liquid, vapour);
+    let apart = sums_apart(v, l, g);
+    bracket::product(v, heat, bracket::sum(v, logarithm, apart))
 }
 
 // Pressure less target.
-pub fn target_gap_of(p: Bracket, target: f64) -> Bracket
-    requires { ⌜ PressureIn p × T (acceptedTarget target) ⌝ }
-    ensures { λ r. ⌜ r ≡ minus 32 (ends p) (ends (given 32 (exactOf target))) ⌝ }
+pub fn target_gap_of(v: u64, p: Bracket, target: f64) -> Bracket
+    requires { ⌜ PressureIn v p × T (acceptedTarget target) ⌝ }
+    ensures { λ r. ⌜ r ≡ minus (suc v) (ends p) (ends (given (suc v) (exactOf target))) ⌝ }
 {
-    let aim = bracket::given(target);
-    bracket::difference(p, aim)
+    let aim = bracket::given(v, target);
+    bracket::difference(v, p, aim)
 }
 
 // Pressure of the liquid less that of the vapour.
-pub fn pressure_gap_of(liquid: Bracket, vapour: Bracket) -> Bracket
-    requires { ⌜ PressureIn liquid × PressureIn vapour ⌝ }
-    ensures { λ r. ⌜ r ≡ minus 32 (ends liquid) (ends vapour) ⌝ }
+pub fn pressure_gap_of(v: u64, liquid: Bracket, vapour: Bracket) -> Bracket
+    requires { ⌜ PressureIn v liquid × PressureIn v vapour ⌝ }
+    ensures { λ r. ⌜ r ≡ minus (suc v) (ends liquid) (ends vapour) ⌝ }
 {
-    bracket::difference(liquid, vapour)
+    bracket::difference(v, liquid, vapour)
 }

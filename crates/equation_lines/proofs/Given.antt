@@ -2,14 +2,16 @@
 use mathlib.Core.Path.{_≡_, sym, subst, _∙_}
 use mathlib.Core.Bool.{Bool, true}
 use mathlib.Core.List.{List}
-use Prim.Native.Nat.{ℕ}
+use Prim.Native.Nat.{ℕ, suc, _^_, _<_}
 use native.Mathlib.Omega.{arith}
 use lib.Dec.{T}
 use lib.Ieee.{Float}
 use Rattle.exact.specs.Fraction.Order.{≼-by}
-use Rattle.sheet.specs.Range.{Doubled}
+use Rattle.sheet.specs.declared.Sheet.{Sheet}
+use Rattle.sheet.specs.Range.{Width, InRange, Doubled}
 use Rattle.doubles.specs.Double.{exactOf}
 use Rattle.doubles.specs.Range.{acceptedTemperature, acceptedDensity}
+use Rattle.doubles.proofs.Write.{normal-few}
 use Rattle.bracket.specs.declared.Bracket.{Bracket}
 use Rattle.bracket.specs.Rules.{ends, minus}
 use Rattle.bracket.specs.Held.{Ends, Held}
@@ -27,46 +29,53 @@ use Rattle.equation.proofs.Taken.{temperature-of, density-of}
 pub passed : {r b : Bool} → r ≡ b → r ≡ true → T b
 passed p q = subst T (sym (sym p ∙ q)) tt
 
-ends-given : {r b : Bracket} → r ≡ b → Ends Doubled b → Held b → Ends Doubled r × Held r
-ends-given e d h = (subst (Ends Doubled) (sym e) d, subst Held (sym e) h)
+-- what is written as an f64: it is one exactly, and has no more digits
+abbrev pub Written : Sheet → Type 0
+Written s = Doubled s × (s .m < 2 ^ 53)
+
+end-given : {v : ℕ} {s : Sheet} → Doubled s → InRange v s → Written s
+end-given {v} {s} d r = (d, normal-few v s (r .within .normal) (omega (arith, r .width .high)))
+
+ends-given : {v : ℕ} {r b : Bracket} → r ≡ b → Ends Doubled b → Held v b → Ends Written r
+ends-given e d h = subst (Ends Written) (sym e) (record { lo = end-given (d .lo) (h .lo); hi = end-given (d .hi) (h .hi) })
 
 -- the brackets of a table at a temperature, of one density and of two
-module _ (table : List ℕ) (sound : soundTable table ≡ true) (t : Float) (a : T (acceptedTemperature t)) where
-  pub sums-given : (rho : Float) → T (acceptedDensity rho) → {s : Sums} → s ≡ sums 32 table (exactOf t) (exactOf rho) → SumsIn s
-  sums-given rho d e = subst SumsIn (sym e) (sums-in table sound (temperature-of t a) (density-of rho d))
+module _ {v : ℕ} (w : Width v) (table : List ℕ) (sound : soundTable table ≡ true) (t : Float) (a : T (acceptedTemperature t)) where
+  pub sums-given : (rho : Float) → T (acceptedDensity rho) → {s : Sums} → s ≡ sums (suc v) table (exactOf t) (exactOf rho) → SumsIn v s
+  sums-given rho d e = subst (SumsIn v) (sym e) (sums-in w table sound (temperature-of t a) (density-of rho d))
 
-  module _ (rho : Float) (d : T (acceptedDensity rho)) {s : Sums} (e : s ≡ sums 32 table (exactOf t) (exactOf rho)) where
-    pub pressure-range : {r : Bracket} → r ≡ pressureOf 32 (exactOf t) (exactOf rho) s → PressureIn r
+  module _ (rho : Float) (d : T (acceptedDensity rho)) {s : Sums} (e : s ≡ sums (suc v) table (exactOf t) (exactOf rho)) where
+    pub pressure-range : {r : Bracket} → r ≡ pressureOf (suc v) (exactOf t) (exactOf rho) s → PressureIn v r
     pressure-range i =
-        subst PressureIn (sym (pressure-is 32 table (exactOf t) (exactOf rho) e i)) (pressure-held table sound (temperature-of t a) (density-of rho d))
+        subst (PressureIn v) (sym (pressure-is (suc v) table (exactOf t) (exactOf rho) e i)) (pressure-held w table sound (temperature-of t a) (density-of rho d))
 
-    pub pressure-given : {r : Bracket} → r ≡ pressureOf 32 (exactOf t) (exactOf rho) s → Ends Doubled r × Held r
+    pub pressure-given : {r : Bracket} → r ≡ pressureOf (suc v) (exactOf t) (exactOf rho) s → Ends Written r
     pressure-given i =
-        ends-given (pressure-is 32 table (exactOf t) (exactOf rho) e i)
-        (pressure-doubled 31 (omega arith) (omega arith) table sound (temperature-of t a) (density-of rho d))
-        (pressure-held table sound (temperature-of t a) (density-of rho d) .held)
+        ends-given (pressure-is (suc v) table (exactOf t) (exactOf rho) e i)
+        (pressure-doubled v (omega (arith, w .low)) (omega (arith, w .high)) table sound (temperature-of t a) (density-of rho d))
+        (pressure-held w table sound (temperature-of t a) (density-of rho d) .held)
 
-    pub stiffness-given : {r : Bracket} → r ≡ stiffnessOf 32 (exactOf t) s → Ends Doubled r × Held r
+    pub stiffness-given : {r : Bracket} → r ≡ stiffnessOf (suc v) (exactOf t) s → Ends Written r
     stiffness-given i =
-        ends-given (stiffness-is 32 table (exactOf t) (exactOf rho) e i)
-        (stiffness-doubled 31 (omega arith) (omega arith) table sound (temperature-of t a) (density-of rho d))
-        (stiffness-held table sound (temperature-of t a) (density-of rho d))
+        ends-given (stiffness-is (suc v) table (exactOf t) (exactOf rho) e i)
+        (stiffness-doubled v (omega (arith, w .low)) (omega (arith, w .high)) table sound (temperature-of t a) (density-of rho d))
+        (stiffness-held w table sound (temperature-of t a) (density-of rho d))
 
-  module _ (liquid vapour : Float) (p : Pair liquid vapour) {x y : Sums} (i : x ≡ sums 32 table (exactOf t) (exactOf liquid))
-      (j : y ≡ sums 32 table (exactOf t) (exactOf vapour)) where
-    pub gap-given : {m n r : Bracket} → m ≡ pressureOf 32 (exactOf t) (exactOf liquid) x → n ≡ pressureOf 32 (exactOf t) (exactOf vapour) y
-        → r ≡ minus 32 (ends m) (ends n) → Ends Doubled r × Held r
+  module _ (liquid vapour : Float) (p : Pair liquid vapour) {x y : Sums} (i : x ≡ sums (suc v) table (exactOf t) (exactOf liquid))
+      (j : y ≡ sums (suc v) table (exactOf t) (exactOf vapour)) where
+    pub gap-given : {m n r : Bracket} → m ≡ pressureOf (suc v) (exactOf t) (exactOf liquid) x → n ≡ pressureOf (suc v) (exactOf t) (exactOf vapour) y
+        → r ≡ minus (suc v) (ends m) (ends n) → Ends Written r
     gap-given k l e =
         ends-given
-        (pressureGap-is 32 table (exactOf t) (exactOf liquid) (exactOf vapour) (pressure-is 32 table (exactOf t) (exactOf liquid) i k)
-        (pressure-is 32 table (exactOf t) (exactOf vapour) j l) e)
-        (pressureGap-doubled 31 (omega arith) (omega arith) table sound (temperature-of t a) (density-of liquid (p .dense)) (density-of vapour (p .thin)))
-        (pressureGap-held table sound (temperature-of t a) (density-of liquid (p .dense)) (density-of vapour (p .thin)))
+        (pressureGap-is (suc v) table (exactOf t) (exactOf liquid) (exactOf vapour) (pressure-is (suc v) table (exactOf t) (exactOf liquid) i k)
+        (pressure-is (suc v) table (exactOf t) (exactOf vapour) j l) e)
+        (pressureGap-doubled v (omega (arith, w .low)) (omega (arith, w .high)) table sound (temperature-of t a) (density-of liquid (p .dense)) (density-of vapour (p .thin)))
+        (pressureGap-held w table sound (temperature-of t a) (density-of liquid (p .dense)) (density-of vapour (p .thin)))
 
-    pub gibbs-given : {r : Bracket} → r ≡ gibbsGapOf 32 (exactOf t) (exactOf liquid) (exactOf vapour) x y → Ends Doubled r × Held r
+    pub gibbs-given : {r : Bracket} → r ≡ gibbsGapOf (suc v) (exactOf t) (exactOf liquid) (exactOf vapour) x y → Ends Written r
     gibbs-given e =
-        ends-given (gibbsGap-is 32 table (exactOf t) (exactOf liquid) (exactOf vapour) i j e)
-        (gibbsGap-doubled 31 (omega arith) (omega arith) table sound (temperature-of t a) (density-of liquid (p .dense)) (density-of vapour (p .thin))
+        ends-given (gibbsGap-is (suc v) table (exactOf t) (exactOf liquid) (exactOf vapour) i j e)
+        (gibbsGap-doubled v (omega (arith, w .low)) (omega (arith, w .high)) table sound (temperature-of t a) (density-of liquid (p .dense)) (density-of vapour (p .thin))
         (≼-by (exactOf vapour) (exactOf liquid) (p .order)))
-        (gibbsGap-held table sound (temperature-of t a) (density-of liquid (p .dense)) (density-of vapour (p .thin))
+        (gibbsGap-held w table sound (temperature-of t a) (density-of liquid (p .dense)) (density-of vapour (p .thin))
         (≼-by (exactOf vapour) (exactOf liquid) (p .order)))

@@ -1,21 +1,20 @@
 // Reads states and pairs from standard input and writes the f64s of their brackets, a line each, for a comparison bit for bit. A
-// record is a table (its length as a word, its bytes, zero bytes up to a multiple of eight), the temperature, and the density of a state or
-// of a liquid; a word above 600 behind them is the vapour's density of a pair. A state's line has its pressure and stiffness; a pair's the
-// liquid's pressure, the vapour's, the gap of the two, the Gibbs gap, and both stiffnesses. What is not accepted has an empty line.
-// Assumes nothing.
+// record is the width (32 or 53), a table (its length as a word, its bytes, zero bytes up to a multiple of eight), the temperature, and the
+// density of a state or of a liquid; a word above 600 behind them is the vapour's density of a pair. A state's line has its pressure and
+// stiffness; a pair's the liquid's pressure, the vapour's, the gap of the two, the Gibbs gap, and both stiffnesses. What is not accepted, as
+// another width, has an empty line. Assumes nothing.
 use bracket::Bracket;
 use libc::STDIN_FILENO;
 use sheet::Sheet;
 use term::Table;
 ghost use mathlib.Core.Path.{_≡_};
 ghost use mathlib.Core.Bool.{true};
-ghost use Prim.Native.Nat.{_≤_};
+ghost use Prim.Native.Nat.{_^_, _≤_, _<_};
 ghost use lib.Dec.{T};
 ghost use lib.ListN.{length};
-ghost use Rattle.sheet.specs.Range.{Doubled, InRange};
-ghost use Rattle.doubles.specs.Double.{exactOf};
+ghost use Rattle.sheet.specs.Range.{Width, Doubled};
 ghost use Rattle.doubles.specs.Range.{acceptedTemperature, acceptedDensity};
-ghost use Rattle.bracket.specs.Held.{Ends, Held};
+ghost use Rattle.bracket.specs.Held.{Ends};
 ghost use Rattle.series.specs.Pair.{Pair};
 ghost use Rattle.term.specs.Sound.{soundTable};
 
@@ -44,49 +43,49 @@ fn double(bits: u64) -> f64 {
 
 // The f64 of an end, as its bits.
 fn bits(s: Sheet) -> u64
-    requires { ⌜ Doubled s × InRange s ⌝ }
+    requires { ⌜ Doubled s × (s .m < 2 ^ 53) ⌝ }
 {
     let end = doubles::encode::double_of(s);
     f64::to_bits(end)
 }
 
 fn write_ends(b: Bracket)
-    requires { ⌜ Ends Doubled b × Held b ⌝ }
+    requires { ⌜ Ends (λ s. Doubled s × (s .m < 2 ^ 53)) b ⌝ }
 {
     words::first(bits(b.lo));
     words::next(bits(b.hi));
 }
 
 fn add_ends(b: Bracket)
-    requires { ⌜ Ends Doubled b × Held b ⌝ }
+    requires { ⌜ Ends (λ s. Doubled s × (s .m < 2 ^ 53)) b ⌝ }
 {
     words::next(bits(b.lo));
     words::next(bits(b.hi));
 }
 
-fn write_state(table: &[u8], t: f64, rho: f64)
+fn write_state(v: u64, table: &[u8], t: f64, rho: f64)
     requires { ⌜ soundTable (now table) ≡ true ⌝ }
-    requires { ⌜ T (acceptedTemperature t) × T (acceptedDensity rho) ⌝ }
+    requires { ⌜ Width v × T (acceptedTemperature t) × T (acceptedDensity rho) ⌝ }
 {
-    let s = equation::sums_of(table, t, rho);
-    write_ends(equation::pressure_of(t, rho, s));
-    add_ends(equation::stiffness_of(t, s));
+    let s = equation::sums_of(v, table, t, rho);
+    write_ends(equation::pressure_of(v, t, rho, s));
+    add_ends(equation::stiffness_of(v, t, s));
 }
 
-fn write_pair(table: &[u8], t: f64, liquid: f64, vapour: f64)
+fn write_pair(v: u64, table: &[u8], t: f64, liquid: f64, vapour: f64)
     requires { ⌜ soundTable (now table) ≡ true ⌝ }
-    requires { ⌜ T (acceptedTemperature t) × Pair liquid vapour ⌝ }
+    requires { ⌜ Width v × T (acceptedTemperature t) × Pair liquid vapour ⌝ }
 {
-    let l = equation::sums_of(table, t, liquid);
-    let g = equation::sums_of(table, t, vapour);
-    let of_liquid = equation::pressure_of(t, liquid, l);
-    let of_vapour = equation::pressure_of(t, vapour, g);
+    let l = equation::sums_of(v, table, t, liquid);
+    let g = equation::sums_of(v, table, t, vapour);
+    let of_liquid = equation::pressure_of(v, t, liquid, l);
+    let of_vapour = equation::pressure_of(v, t, vapour, g);
     write_ends(of_liquid);
     add_ends(of_vapour);
-    add_ends(equation::pressure_gap_of(of_liquid, of_vapour));
-    add_ends(equation::gibbs_gap_of(t, liquid, vapour, l, g));
-    add_ends(equation::stiffness_of(t, l));
-    add_ends(equation::stiffness_of(t, g));
+    add_ends(equation::pressure_gap_of(v, of_liquid, of_vapour));
+    add_ends(equation::gibbs_gap_of(v, t, liquid, vapour, l, g));
+    add_ends(equation::stiffness_of(v, t, l));
+    add_ends(equation::stiffness_of(v, t, g));
 }
 
 // Whether the table is sound.
@@ -101,24 +100,30 @@ fn sound(table: &[u8]) -> bool
     }
 }
 
-fn state_line(table: &[u8], t: f64, rho: f64) {
-    if sound(table) {
-        if doubles::range::accepts_temperature(t) {
-            if doubles::range::accepts_density(rho) {
-                write_state(table, t, rho);
+fn state_line(width: u64, table: &[u8], t: f64, rho: f64) {
+    let v = words::digits_of(width);
+    if 0 < v {
+        if sound(table) {
+            if doubles::range::accepts_temperature(t) {
+                if doubles::range::accepts_density(rho) {
+                    write_state(v, table, t, rho);
+                }
             }
         }
     }
     words::end_line();
 }
 
-fn pair_line(table: &[u8], t: f64, liquid: f64, vapour: f64) {
-    if sound(table) {
-        if doubles::range::accepts_temperature(t) {
-            if doubles::range::accepts_density(liquid) {
-                if doubles::range::accepts_density(vapour) {
-                    if doubles::range::at_most(vapour, liquid) {
-                        write_pair(table, t, liquid, vapour);
+fn pair_line(width: u64, table: &[u8], t: f64, liquid: f64, vapour: f64) {
+    let v = words::digits_of(width);
+    if 0 < v {
+        if sound(table) {
+            if doubles::range::accepts_temperature(t) {
+                if doubles::range::accepts_density(liquid) {
+                    if doubles::range::accepts_density(vapour) {
+                        if doubles::range::at_most(vapour, liquid) {
+                            write_pair(v, table, t, liquid, vapour);
+                        }
                     }
                 }
             }
@@ -128,62 +133,65 @@ fn pair_line(table: &[u8], t: f64, liquid: f64, vapour: f64) {
 }
 
 // The line of a record whose first density is `rho`, by the word behind it; what is left is the next record's first word.
-fn line(table: &[u8], t: f64, rho: f64) -> Next {
+fn line(width: u64, table: &[u8], t: f64, rho: f64) -> Next {
     let behind = next_word();
     match behind {
         Next::Word(word) => {
             if word <= 600 {
-                state_line(table, t, rho);
+                state_line(width, table, t, rho);
                 Next::Word(word)
             } else {
-                pair_line(table, t, rho, double(word));
+                pair_line(width, table, t, rho, double(word));
                 next_word()
             }
         }
         Next::End => {
-            state_line(table, t, rho);
+            state_line(width, table, t, rho);
             Next::End
         }
     }
 }
 
-fn numbers(table: &[u8]) -> Next {
+fn numbers(width: u64, table: &[u8]) -> Next {
     let Next::Word(t) = next_word() else {
         return Next::End;
     };
     let Next::Word(rho) = next_word() else {
         return Next::End;
     };
-    line(table, double(t), double(rho))
+    line(width, table, double(t), double(rho))
 }
 
 // Reads a table of `count` bytes with its padding into the buffer, and the rest of its record.
-fn read_table(buffer: &mut [u8], count: usize) -> Next
+fn read_table(width: u64, buffer: &mut [u8], count: usize) -> Next
     requires { ⌜ (count ≤ 600) × (600 ≤ length (now buffer)) ⌝ }
 {
     let padded = (count + 7) / 8 * 8;
     if io::read_full(STDIN_FILENO, &mut buffer[..padded]) < padded {
         return Next::End;
     }
-    numbers(&buffer[..count])
+    numbers(width, &buffer[..count])
 }
 
-fn one_record(count: u64) -> Next {
+fn one_record(width: u64) -> Next {
+    let Next::Word(count) = next_word() else {
+        return Next::End;
+    };
     if 600 < count {
         return Next::End;
     }
     let mut buffer = [0u8; 600];
-    read_table(&mut buffer, count as usize)
+    read_table(width, &mut buffer, count as usize)
 }
 
 fn main() {
     let mut next = next_word();
     let mut left: u64 = 1_000_000_000;
     while 0 < left {
-        let Next::Word(count) = next else {
+        let Next::Word(width) = next else {
             return;
         };
-        next = one_record(count);
+        next = one_record(width);
         left -= 1;
     }
 }

@@ -6,3 +6,4 @@ pub mod BytesNumber
 pub mod Held
 pub mod Meaning
 pub mod Tried
+pub mod WidthWord

@@ -3,3 +3,4 @@ pub mod Digits
 pub mod Put
 pub mod Line
 pub mod Proposal
+pub mod Width

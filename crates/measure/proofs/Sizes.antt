@@ -15,7 +15,7 @@ use Rattle.exact.specs.Fraction.Order.{≈→≼, ≈-sym}
 use Rattle.sheet.specs.declared.Sheet.{Sheet}
 use Rattle.sheet.specs.Number.{bias, value, Spelled}
 use Rattle.sheet.specs.Round.{round}
-use Rattle.sheet.specs.Range.{extent, Within, Doubled}
+use Rattle.sheet.specs.Range.{extent, Within, Width, Doubled}
 use Rattle.sheet.proofs.Laws.{round-spelled}
 use Rattle.sheet.proofs.Measures.{span-within, grain-shift, grain-doubled}
 use Rattle.bracket.specs.declared.Bracket.{Bracket}
@@ -170,14 +170,14 @@ doubled-of {g} {h} s d p q = grain-doubled g h s (rw same (grain-shift g (d .tim
 
 -- ---- brackets
 
-module _ {l h : ℕ} {A : Span} (low : bias + 31 ≤ l + 20000) (high : h ≤ 31 + bias + 20000) (full : 31 ≤ l) where
-  pub held-of : Ordered A → Each (Sized l h) (ends (rounded 32 A)) → Held (rounded 32 A)
+module _ {v l h : ℕ} (w : Width v) {A : Span} (low : bias + v ≤ l + 20000) (high : h ≤ v + bias + 20000) (full : v ≤ l) where
+  pub held-of : Ordered A → Each (Sized l h) (ends (rounded (suc v) A)) → Held v (rounded (suc v) A)
   unfolding rounded
   held-of o e =
       record {
-        lo = within-of (round false 32 (A .low)) (e .low) (round-spelled false 31 (A .low)) full low high;
-        hi = within-of (round true 32 (A .high)) (e .high) (round-spelled true 31 (A .high)) full low high;
-        order = rounded-ordered 31 o .order;
+        lo = record { width = w; within = within-of (round false (suc v) (A .low)) (e .low) (round-spelled false v (A .low)) full low high };
+        hi = record { width = w; within = within-of (round true (suc v) (A .high)) (e .high) (round-spelled true v (A .high)) full low high };
+        order = rounded-ordered v o .order;
       }
 
 pub doubled-both : {g h : ℕ} (b : Bracket) → Each (Fine g h) (ends b) → bias ≤ g + 1074 → h < 1024 + bias → Ends Doubled b

@@ -8,6 +8,7 @@ pub fn number(why: Refusal) -> u64
     ensures { λ r. ⌜ r ≡ refusalNumber why ⌝ }
 {
     match why {
+        Refusal::Width => 19,
         Refusal::TableLength => 1,
         Refusal::BrokenTerm(_) => 2,
         Refusal::Temperature => 3,
@@ -23,6 +24,7 @@ pub fn place(why: Refusal) -> u64
     ensures { λ r. ⌜ r ≡ refusalPlace why ⌝ }
 {
     match why {
+        Refusal::Width => 0,
         Refusal::TableLength => 0,
         Refusal::BrokenTerm(at) => at as u64,
         Refusal::Temperature => 0,

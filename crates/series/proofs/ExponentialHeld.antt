@@ -1,10 +1,11 @@
--- What the exponential's code works on at 32 bits, for X from 0 to 128 whose ends are zero or at least 2^-64. Assumes nothing.
+-- What the exponential's code works on, for X from 0 to 128 whose ends are zero or at least 2^-64. Assumes nothing.
 use mathlib.Core.Bool.{true}
 use Prim.Native.Nat.{ℕ, zero, suc, _≤_}
 use native.Mathlib.Omega.{arith}
 use lib.Dec.{lit≤}
 use Rattle.exact.specs.Fraction.{nat, _⊕_, _⊗_, _⊘_, _≺_}
 use Rattle.sheet.specs.Number.{value, Spelled}
+use Rattle.sheet.specs.Range.{Width}
 use Rattle.bracket.specs.Span.{Span, Ordered, whole, over}
 use Rattle.bracket.specs.Rules.{ends, times, addlast}
 use Rattle.series.proofs.ExponentialCovers.{expSum-ordered, expTerm-ordered}
@@ -37,38 +38,38 @@ module _ (v : ℕ) (X : Span) where
   expTotal-spelled = record { lo = expSum-spelled 256 .lo; hi = round-spelled true v _ }
 
 -- ---- brackets that the operations take
-module _ {X : Span} (q : Taken X) where
+module _ {v : ℕ} (w : Width v) {X : Span} (q : Taken X) where
   o : Ordered X
   o = record { order = q .order }
 
-  pub expTerm-held : (k : ℕ) → k ≤ 256 → Held (expTerm 32 X k)
+  pub expTerm-held : (k : ℕ) → k ≤ 256 → Held v (expTerm (suc v) X k)
   expTerm-held k h =
-      each-held (expTerm 32 X k) (expTerm-spelled 31 X k) (expTerm-ordered 31 o (q .above) k) (expTerm-sized 31 7 247 o (q .above) (q .sized) rise-128 k h)
+      each-held w (expTerm (suc v) X k) (expTerm-spelled v X k) (expTerm-ordered v o (q .above) k) (expTerm-sized v 7 247 o (q .above) (q .sized) rise-128 k h)
       (omega (arith, bias-room)) (omega arith) (omega (arith, bias-room))
 
-  pub expProduct-held : (k : ℕ) → k ≤ 256 → Held (times 32 (ends (expTerm 32 X k)) X)
+  pub expProduct-held : (k : ℕ) → k ≤ 256 → Held v (times (suc v) (ends (expTerm (suc v) X k)) X)
   expProduct-held k h =
-      held-of (omega (arith, bias-room)) (omega arith) (omega (arith, bias-room)) (over-ordered _⊗_ (ends (expTerm 32 X k)) X)
-      (expProduct-sized 31 7 247 o (q .above) (q .sized) rise-128 k h)
+      held-of w (omega (arith, bias-room)) (omega arith) (omega (arith, bias-room)) (over-ordered _⊗_ (ends (expTerm (suc v) X k)) X)
+      (expProduct-sized v 7 247 o (q .above) (q .sized) rise-128 k h)
 
-  pub expSum-held : (k : ℕ) → k ≤ 256 → Held (expSum 32 X k)
+  pub expSum-held : (k : ℕ) → k ≤ 256 → Held v (expSum (suc v) X k)
   expSum-held k h =
-      each-held (expSum 32 X k) (expSum-spelled 31 X k) (expSum-ordered 31 o (q .above) k)
-      (positive-sized (expSum-sized 31 7 247 o (q .above) (q .sized) rise-128 (lit≤ tt) k h)) (omega arith) (omega arith) (omega (arith, bias-room))
+      each-held w (expSum (suc v) X k) (expSum-spelled v X k) (expSum-ordered v o (q .above) k)
+      (positive-sized (expSum-sized v 7 247 o (q .above) (q .sized) rise-128 (omega arith) k h)) (omega arith) (omega arith) (omega (arith, bias-room))
 
-  pub total-ordered : Ordered (ends (expTotal 32 X))
-  total-ordered = expTotal-ordered 31 7 247 o (q .above) (q .sized) rise-128
+  pub total-ordered : Ordered (ends (expTotal (suc v) X))
+  total-ordered = expTotal-ordered v 7 247 o (q .above) (q .sized) rise-128
 
-  pub total-above : nat 0 ≺ value (expTotal 32 X .lo)
-  total-above = expTotal-sized 31 7 247 o (q .above) (q .sized) rise-128 (lit≤ tt) .low .above
+  pub total-above : nat 0 ≺ value (expTotal (suc v) X .lo)
+  total-above = expTotal-sized v 7 247 o (q .above) (q .sized) rise-128 (omega arith) .low .above
 
-  pub expTotal-held : Held (expTotal 32 X)
+  pub expTotal-held : Held v (expTotal (suc v) X)
   expTotal-held =
-      each-held (expTotal 32 X) (expTotal-spelled 31 X) total-ordered
-      (positive-sized (expTotal-sized 31 7 247 o (q .above) (q .sized) rise-128 (lit≤ tt))) (omega arith) (omega arith) (omega (arith, bias-room))
+      each-held w (expTotal (suc v) X) (expTotal-spelled v X) total-ordered
+      (positive-sized (expTotal-sized v 7 247 o (q .above) (q .sized) rise-128 (omega arith))) (omega arith) (omega arith) (omega (arith, bias-room))
 
-  pub expneg-held : Held (expneg 32 X)
+  pub expneg-held : Held v (expneg (suc v) X)
   unfolding expneg
   expneg-held =
-      held-of (omega (arith, bias-room)) (omega arith) (omega (arith, bias-room)) (over-ordered _⊘_ (whole 1) (ends (expTotal 32 X)))
-      (plus-sized (answer-plus 31 7 247 o (q .above) (q .sized) rise-128 (lit≤ tt) (lit≤ tt)))
+      held-of w (omega (arith, bias-room)) (omega arith) (omega (arith, bias-room)) (over-ordered _⊘_ (whole 1) (ends (expTotal (suc v) X)))
+      (plus-sized (answer-plus v 7 247 o (q .above) (q .sized) rise-128 (omega arith) (lit≤ tt)))

@@ -2,25 +2,25 @@
 use mathlib.Core.Path.{_≡_, refl, sym, ap, ap₂, _∙_, subst}
 use mathlib.Core.Logic.{⊎-elim}
 use mathlib.Core.Bool.{Bool, true, false}
-use Prim.Native.Nat.{ℕ, _+_, _-_, _^_, _≤_, _<_}
+use Prim.Native.Nat.{ℕ, suc, _+_, _-_, _^_, _≤_, _<_}
 use native.Mathlib.Numerals.{add-one}
 use native.Mathlib.Omega.{arith}
 use lib.Dec.{lit≤}
 use Rattle.exact.specs.Fraction.{nat, leq, _≼_, _≺_, _≈_}
-use Rattle.exact.specs.Fraction.Order.{leq-true, ≼-trans, ≺-≼-trans, ≺-≈-trans, ≈-sym, ≈-≼-trans, ≼-≈-trans}
-use Rattle.exact.specs.Fraction.Parts.{nat-pos}
+use Rattle.exact.specs.Fraction.Order.{leq-true, ≼-trans, ≺-≼-trans, ≈-sym, ≈-≼-trans, ≼-≈-trans}
 use Rattle.sheet.specs.declared.Sheet.{Sheet}
 use Rattle.sheet.specs.Number.{bias, value}
 use Rattle.sheet.specs.Round.{round}
 use Rattle.sheet.proofs.Gaps.{zero-or-pos}
-use Rattle.sheet.proofs.Spelling.{normal-spelled}
+use Rattle.sheet.specs.Range.{Width}
+use Rattle.sheet.proofs.Live.{range-spelled, few-digits}
 use Rattle.sheet.proofs.Operations.{digits-pos, nonneg-plain}
 use Rattle.sheet.proofs.Laws.{round-whole}
 use Rattle.bracket.specs.declared.Bracket.{Bracket}
 use Rattle.bracket.specs.Span.{Span, Ordered, Each, whole}
 use Rattle.bracket.specs.Held.{Held}
 use Rattle.bracket.specs.Rules.{ends, given, plus, times, divided, addlast, stretched}
-use Rattle.bracket.proofs.Operands.{given-whole, divided-whole, whole-divided}
+use Rattle.bracket.proofs.Operands.{whole-divided}
 use Rattle.measure.proofs.Sizes.{Positive}
 use Rattle.series.specs.Exponential.{expTerm, expSum, expTotal, expneg}
 use Rattle.series.specs.Terms.{Factor, Taken, termsTo}
@@ -68,17 +68,12 @@ factor-positive f =
     }
 
 -- ---- one step: p, w, t and s are what the code's calls give
-pub whole-above : (n : ℕ) {a : Bracket} → 0 < n → n < 2 ^ 32 → a ≡ given 32 (nat n) → nat 0 ≺ value (a .lo)
-whole-above n some few e = subst (λ (b : Bracket). nat 0 ≺ value (b .lo)) (sym e) (≺-≈-trans (nat-pos some) (≈-sym (given-whole 31 n few .low)))
+pub term-next : (w : ℕ) (X : Span) (k : ℕ) {t p r : Bracket} → t ≡ expTerm w X k → p ≡ times w (ends t) X → r ≡ divided w (ends p) (whole (k + 1)) → r ≡ expTerm w X (k + 1)
+term-next w X k {t} {p} {r} a b e =
+    e ∙ ap (λ (b : Bracket). divided w (ends b) (whole (k + 1))) (b ∙ ap (λ (b : Bracket). times w (ends b) X) a) ∙ sym (expTerm-next w X k)
 
-pub term-next : (X : Span) (k : ℕ) {t p w r : Bracket} → k < 256 → t ≡ expTerm 32 X k → p ≡ times 32 (ends t) X → w ≡ given 32 (nat (k + 1)) → r ≡ divided 32 (ends p) (ends w)
-    → r ≡ expTerm 32 X (k + 1)
-term-next X k {t} {p} {w} {r} h a b d e =
-    e ∙ divided-whole 31 (k + 1) (omega arith) d (ends p) (omega arith)
-    ∙ ap (λ (b : Bracket). divided 32 (ends b) (whole (k + 1))) (b ∙ ap (λ (b : Bracket). times 32 (ends b) X) a) ∙ sym (expTerm-next 32 X k)
-
-pub sum-next : (X : Span) (k : ℕ) {s t r : Bracket} → s ≡ expSum 32 X k → t ≡ expTerm 32 X (k + 1) → r ≡ plus 32 (ends s) (ends t) → r ≡ expSum 32 X (k + 1)
-sum-next X k {s} {t} {r} a b e = e ∙ ap₂ (λ (s t : Bracket). plus 32 (ends s) (ends t)) a b ∙ sym (expSum-next 32 X k)
+pub sum-next : (w : ℕ) (X : Span) (k : ℕ) {s t r : Bracket} → s ≡ expSum w X k → t ≡ expTerm w X (k + 1) → r ≡ plus w (ends s) (ends t) → r ≡ expSum w X (k + 1)
+sum-next w X k {s} {t} {r} a b e = e ∙ ap₂ (λ (s t : Bracket). plus w (ends s) (ends t)) a b ∙ sym (expSum-next w X k)
 
 -- what lies from 2^-57 to 64 is taken
 pub factor-taken : {X : Span} → Factor X → Taken X
@@ -87,61 +82,62 @@ factor-taken f =
     record { order = f .order; above = ≺→≼ (x .low .above); sized = each-map (λ y s. sized-in (omega arith) (omega arith) (s .sized)) x }
 
 -- ---- what the calls require
-pub held-as : {a b : Bracket} → a ≡ b → Held b → Held a
-held-as e h = subst Held (sym e) h
+pub held-as : {v : ℕ} {a b : Bracket} → a ≡ b → Held v b → Held v a
+held-as {v} e h = subst (Held v) (sym e) h
 
-module _ {X : Span} (f : Taken X) {k : ℕ} {s : Terms} (h : k ≤ 256) (e : s ≡ termsTo X k) where
-  pub term-held : Held (s .term)
-  term-held = held-as (ap (λ (s : Terms). s .term) e) (expTerm-held f k h)
+module _ {v : ℕ} (w : Width v) {X : Span} (f : Taken X) {k : ℕ} {s : Terms} (h : k ≤ 256) (e : s ≡ termsTo (suc v) X k) where
+  pub term-held : Held v (s .term)
+  term-held = held-as (ap (λ (s : Terms). s .term) e) (expTerm-held w f k h)
 
-  pub sum-held : Held (s .sum)
-  sum-held = held-as (ap (λ (s : Terms). s .sum) e) (expSum-held f k h)
+  pub sum-held : Held v (s .sum)
+  sum-held = held-as (ap (λ (s : Terms). s .sum) e) (expSum-held w f k h)
 
-  pub product-held : {p : Bracket} → p ≡ times 32 (ends (s .term)) X → Held p
+  pub product-held : {p : Bracket} → p ≡ times (suc v) (ends (s .term)) X → Held v p
   product-held i =
-      held-as (i ∙ ap (λ (s : Terms). times 32 (ends (s .term)) X) e) (expProduct-held f k h)
+      held-as (i ∙ ap (λ (s : Terms). times (suc v) (ends (s .term)) X) e) (expProduct-held w f k h)
 
 -- ---- where the sum only stretches: the tests on places and digits are what the law asks for
-high-some : {x : Bracket} → Held x → Taken (ends x) → (x .hi .m ≡ 0 → ⊥) → nat 0 ≺ value (x .hi)
-high-some {x} held f n =
-    digits-pos (x .hi) (nonneg-plain 31 (x .hi) (normal-spelled 31 (x .hi) (held .hi .normal)) (≼-trans (f .above) (f .order)))
+high-some : {v : ℕ} {x : Bracket} → Held v x → Taken (ends x) → (x .hi .m ≡ 0 → ⊥) → nat 0 ≺ value (x .hi)
+high-some {v} {x} held f n =
+    digits-pos (x .hi) (nonneg-plain v (x .hi) (range-spelled (held .hi)) (≼-trans (f .above) (f .order)))
     (⊎-elim (λ z. absurd (n z)) (λ p. p) (zero-or-pos (x .hi .m)))
 
-module _ {x : Bracket} (held : Held x) (f : Taken (ends x)) {k : ℕ} {s : Terms} (h : k < 256) (e : s ≡ termsTo (ends x) k) where
-  pub stretches-is : {w : Sheet} {r : Bool} → s .term .hi .e + 32 < s .sum .lo .e → (x .hi .m ≡ 0 → ⊥) → w ≡ round false 32 (nat (k + 1))
-      → r ≡ leq (value (x .hi)) (value w) → r ≡ true → expTotal 32 (ends x) ≡ stretched 32 (257 - k) (s .sum)
+module _ {v : ℕ} {x : Bracket} (held : Held v x) (f : Taken (ends x)) {k : ℕ} {s : Terms} (h : k < 256) (e : s ≡ termsTo (suc v) (ends x) k) where
+  pub stretches-is : {w : Sheet} {r : Bool} → s .term .hi .e + suc v < s .sum .lo .e → (x .hi .m ≡ 0 → ⊥) → w ≡ round false (suc v) (nat (k + 1))
+      → r ≡ leq (value (x .hi)) (value w) → r ≡ true → expTotal (suc v) (ends x) ≡ stretched (suc v) (257 - k) (s .sum)
   stretches-is {w} {r} l n d i z =
+      let width = held .hi .width in
       let X = ends x in
       let o : Ordered X = record { order = f .order } in
-      let t = expTerm 32 X k .hi in
-      let whole : value w ≈ nat (k + 1) = subst (λ (y : Sheet). value y ≈ nat (k + 1)) (sym d) (round-whole false 31 (k + 1) (omega arith)) in
+      let t = expTerm (suc v) X k .hi in
+      let whole : value w ≈ nat (k + 1) = subst (λ (y : Sheet). value y ≈ nat (k + 1)) (sym d) (round-whole false v (k + 1) (few-digits width (omega arith))) in
       let most : X .high ≼ nat (k + 1) = ≼-≈-trans (leq-true (value (x .hi)) (value w) (sym i ∙ z)) whole in
-      let c : Stretching 31 X k =
+      let c : Stretching v X k =
       record {
         some = high-some held f n;
         falls = subst (λ (j : ℕ). X .high ≼ nat j) (add-one k) most;
-        power = t .e + 32;
-        small = value-under 31 t (expTerm-spelled 31 X k .hi) (nonneg-plain 31 t (expTerm-spelled 31 X k .hi) (expTerm-above 31 o (f .above) k .high));
-        below = subst (λ (y : Terms). y .term .hi .e + 32 < y .sum .lo .e) e l;
+        power = t .e + suc v;
+        small = value-under v t (expTerm-spelled v X k .hi) (nonneg-plain v t (expTerm-spelled v X k .hi) (expTerm-above v o (f .above) k .high));
+        below = subst (λ (y : Terms). y .term .hi .e + suc v < y .sum .lo .e) e l;
       } in
-      total-rest 31 o (f .above) (lit≤ tt) c (omega arith) ∙ ap (λ (y : Terms). stretched 32 (257 - k) (y .sum)) (sym e)
+      total-rest v o (f .above) (omega (arith, width .low)) c (omega arith) ∙ ap (λ (y : Terms). stretched (suc v) (257 - k) (y .sum)) (sym e)
 
 -- ---- the end of the loop
-pub total-last : (X : Span) (k : ℕ) {s : Terms} {r : Bracket} → k ≤ 256 → 256 ≤ k → s ≡ termsTo X k → r ≡ addlast 32 (s .sum) (s .term) → r ≡ expTotal 32 X
+pub total-last : (w : ℕ) (X : Span) (k : ℕ) {s : Terms} {r : Bracket} → k ≤ 256 → 256 ≤ k → s ≡ termsTo w X k → r ≡ addlast w (s .sum) (s .term) → r ≡ expTotal w X
 unfolding expTotal
-total-last X k {s} h l e d =
+total-last w X k {s} h l e d =
     let n : k ≡ 256 = omega arith in
-    d ∙ ap (λ (s : Terms). addlast 32 (s .sum) (s .term)) (subst (λ (k : ℕ). s ≡ termsTo X k) n e)
+    d ∙ ap (λ (s : Terms). addlast w (s .sum) (s .term)) (subst (λ (k : ℕ). s ≡ termsTo w X k) n e)
 
-module _ {X : Span} (f : Taken X) {total : Bracket} (d : total ≡ expTotal 32 X) where
-  pub total-held : Held total
-  total-held = held-as d (expTotal-held f)
+module _ {v : ℕ} (w : Width v) {X : Span} (f : Taken X) {total : Bracket} (d : total ≡ expTotal (suc v) X) where
+  pub total-held : Held v total
+  total-held = held-as d (expTotal-held w f)
 
   pub total-above : nat 0 ≺ value (total .lo)
-  total-above = subst (λ (b : Bracket). nat 0 ≺ value (b .lo)) (sym d) (held.total-above f)
+  total-above = subst (λ (b : Bracket). nat 0 ≺ value (b .lo)) (sym d) (held.total-above w f)
 
-  pub answer-is : {one r : Bracket} → one ≡ given 32 (nat 1) → r ≡ divided 32 (ends one) (ends total) → r ≡ expneg 32 X
+  pub answer-is : {one r : Bracket} → one ≡ given (suc v) (nat 1) → r ≡ divided (suc v) (ends one) (ends total) → r ≡ expneg (suc v) X
   unfolding expneg
   answer-is {one} {r} i j =
-      j ∙ ap (λ (b : Bracket). divided 32 (ends one) (ends b)) d
-      ∙ whole-divided 31 1 (lit≤ tt) i (ends (expTotal 32 X)) (total-ordered f) (held.total-above f)
+      j ∙ ap (λ (b : Bracket). divided (suc v) (ends one) (ends b)) d
+      ∙ whole-divided v 1 (few-digits w (lit≤ tt)) i (ends (expTotal (suc v) X)) (total-ordered w f) (held.total-above w f)

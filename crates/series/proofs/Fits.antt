@@ -1,4 +1,4 @@
--- What the order says of a sheet number's digits and size, and what the measures say of a bracket at 32 bits. Assumes nothing.
+-- What the order says of a sheet number's digits and size, and what the measures say of a bracket. Assumes nothing.
 use mathlib.Core.Path.{_≡_}
 use mathlib.Core.Bool.{false}
 use mathlib.Core.Logic.{inr}
@@ -11,7 +11,7 @@ use Rattle.exact.specs.Fraction.Order.{≺-≼-trans}
 use Rattle.exact.specs.Fraction.Units.{≼-units, units-≼}
 use Rattle.sheet.specs.declared.Sheet.{Sheet}
 use Rattle.sheet.specs.Number.{bias, value, Spelled}
-use Rattle.sheet.specs.Range.{extent, Span as Size}
+use Rattle.sheet.specs.Range.{extent, Width, Span as Size}
 use Rattle.sheet.proofs.Operations.{above-zero}
 use Rattle.bracket.specs.declared.Bracket.{Bracket}
 use Rattle.bracket.specs.Span.{Ordered, Each}
@@ -45,11 +45,11 @@ value-under v s p z =
     let e = pow-add 2 (s .e) (suc v) in
     rw z (units-≼ (extent s) (1 * 2 ^ (s .e + suc v)) (2 ^ bias) (omega arith))
 
--- ---- brackets at 32 bits
-pub each-held : {l h : ℕ} (b : Bracket) → Ends (Spelled 31) b → Ordered (ends b) → Each (Sized l h) (ends b) → bias + 31 ≤ l + 20000 → h ≤ 31 + bias + 20000 → 31 ≤ l → Held b
-each-held b p o s low high k =
+-- ---- brackets
+pub each-held : {v l h : ℕ} (w : Width v) (b : Bracket) → Ends (Spelled v) b → Ordered (ends b) → Each (Sized l h) (ends b) → bias + v ≤ l + 20000 → h ≤ v + bias + 20000 → v ≤ l → Held v b
+each-held w b p o s low high k =
     record {
-      lo = within-of (b .lo) (s .low) (p .lo) k low high;
-      hi = within-of (b .hi) (s .high) (p .hi) k low high;
+      lo = record { width = w; within = within-of (b .lo) (s .low) (p .lo) k low high };
+      hi = record { width = w; within = within-of (b .hi) (s .high) (p .hi) k low high };
       order = o .order;
     }

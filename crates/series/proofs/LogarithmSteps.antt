@@ -1,11 +1,12 @@
 -- The rule of the logarithm's series step by step, as the code counts, and what the code's operations are given. Assumes nothing.
 use mathlib.Core.Path.{_≡_, refl, sym, ap, ap₂, _∙_, subst}
-use Prim.Native.Nat.{ℕ, _+_, _*_, _≤_}
+use Prim.Native.Nat.{ℕ, suc, _+_, _*_, _≤_}
 use native.Mathlib.Numerals.{add-one}
 use native.Mathlib.Omega.{arith}
-use native.Mathlib.Nat.{le-refl}
 use lib.Dec.{lit≤}
 use Rattle.exact.specs.Fraction.{nat}
+use Rattle.sheet.specs.Range.{Width}
+use Rattle.sheet.proofs.Live.{few-digits}
 use Rattle.bracket.specs.declared.Bracket.{Bracket}
 use Rattle.bracket.specs.Span.{whole}
 use Rattle.bracket.specs.Held.{Held}
@@ -39,57 +40,60 @@ unfolding lnSum
 lnSum-next w Z j = rw add-one
 
 -- ---- one step: p, q and r are what the code's calls give
-module _ (Z : Bracket) (j : ℕ) {s : Powers} (e : s ≡ powersTo Z j) where
-  pub power-next : {square p : Bracket} → square ≡ times 32 (ends Z) (ends Z) → p ≡ times 32 (ends (s .power)) (ends square) → p ≡ lnPower 32 Z (j + 1)
+module _ (w : ℕ) (Z : Bracket) (j : ℕ) {s : Powers} (e : s ≡ powersTo w Z j) where
+  pub power-next : {square p : Bracket} → square ≡ times w (ends Z) (ends Z) → p ≡ times w (ends (s .power)) (ends square) → p ≡ lnPower w Z (j + 1)
   power-next a d =
-      d ∙ ap₂ (λ (b c : Bracket). times 32 (ends b) (ends c)) (ap (λ (s : Powers). s .power) e) a ∙ sym (lnPower-next 32 Z j)
+      d ∙ ap₂ (λ (b c : Bracket). times w (ends b) (ends c)) (ap (λ (s : Powers). s .power) e) a ∙ sym (lnPower-next w Z j)
 
-  pub quotient-next : {p q : Bracket} → p ≡ lnPower 32 Z (j + 1) → q ≡ divided 32 (ends p) (whole (2 * (j + 1) + 1)) → q ≡ lnQuotient 32 Z (j + 1)
-  quotient-next a d = d ∙ ap (λ (b : Bracket). divided 32 (ends b) (whole (2 * (j + 1) + 1))) a ∙ sym (lnQuotient-is 32 Z (j + 1))
+  pub quotient-next : {p q : Bracket} → p ≡ lnPower w Z (j + 1) → q ≡ divided w (ends p) (whole (2 * (j + 1) + 1)) → q ≡ lnQuotient w Z (j + 1)
+  quotient-next a d = d ∙ ap (λ (b : Bracket). divided w (ends b) (whole (2 * (j + 1) + 1))) a ∙ sym (lnQuotient-is w Z (j + 1))
 
-  pub sum-next : {q r : Bracket} → q ≡ lnQuotient 32 Z (j + 1) → r ≡ plus 32 (ends (s .sum)) (ends q) → r ≡ lnSum 32 Z (j + 1)
+  pub sum-next : {q r : Bracket} → q ≡ lnQuotient w Z (j + 1) → r ≡ plus w (ends (s .sum)) (ends q) → r ≡ lnSum w Z (j + 1)
   sum-next a d =
-      d ∙ ap₂ (λ (b c : Bracket). plus 32 (ends b) (ends c)) (ap (λ (s : Powers). s .sum) e) a ∙ sym (lnSum-next 32 Z j)
+      d ∙ ap₂ (λ (b c : Bracket). plus w (ends b) (ends c)) (ap (λ (s : Powers). s .sum) e) a ∙ sym (lnSum-next w Z j)
 
 -- ---- what the calls require
-module _ {Z : Bracket} (a : Argument Z) where
-  few : 34 ≤ 34
-  few = le-refl 34
+module _ {v : ℕ} {Z : Bracket} (a : Argument v Z) where
+  w : Width v
+  w = a .held .lo .width
 
-  pub square-held : {p : Bracket} → p ≡ times 32 (ends Z) (ends Z) → Held p
-  square-held e = held-as e (held.square-held 34 few Z (a .held) (a .sized))
+  few : v + 3 ≤ 55
+  few = omega (arith, w .high)
 
-  pub power-held : {p : Bracket} (j : ℕ) → j ≤ 20 → p ≡ lnPower 32 Z j → Held p
-  power-held j h e = held-as e (held.power-held 34 few Z (a .held) (a .sized) j h)
+  pub square-held : {p : Bracket} → p ≡ times (suc v) (ends Z) (ends Z) → Held v p
+  square-held e = held-as e (held.square-held w (v + 3) few Z (a .held) (a .sized))
 
-  pub quotient-held : {p : Bracket} (j : ℕ) → j ≤ 20 → p ≡ lnQuotient 32 Z j → Held p
-  quotient-held j h e = held-as e (held.quotient-held 34 few Z (a .held) (a .sized) j h)
+  pub power-held : {p : Bracket} (j : ℕ) → j ≤ 20 → p ≡ lnPower (suc v) Z j → Held v p
+  power-held j h e = held-as e (held.power-held w (v + 3) few Z (a .held) (a .sized) j h)
 
-  pub sum-held : {p : Bracket} (j : ℕ) → j ≤ 20 → p ≡ lnSum 32 Z j → Held p
-  sum-held j h e = held-as e (held.sum-held 34 few Z (a .held) (a .sized) j h)
+  pub quotient-held : {p : Bracket} (j : ℕ) → j ≤ 20 → p ≡ lnQuotient (suc v) Z j → Held v p
+  quotient-held j h e = held-as e (held.quotient-held w (v + 3) few Z (a .held) (a .sized) j h)
 
-  pub total-held : {p : Bracket} → p ≡ lnTotal 32 Z → Held p
-  total-held e = held-as e (held.total-held 34 few Z (a .held) (a .sized) (a .reach))
+  pub sum-held : {p : Bracket} (j : ℕ) → j ≤ 20 → p ≡ lnSum (suc v) Z j → Held v p
+  sum-held j h e = held-as e (held.sum-held w (v + 3) few Z (a .held) (a .sized) j h)
+
+  pub total-held : {p : Bracket} → p ≡ lnTotal (suc v) Z → Held v p
+  total-held e = held-as e (held.total-held w (v + 3) few Z (a .held) (a .sized) (a .reach))
 
 -- ---- the end of the loop
-module _ (Z : Bracket) {j : ℕ} {s : Powers} (h : j ≤ 20) (l : 20 ≤ j) (e : s ≡ powersTo Z j) where
-  last : s ≡ powersTo Z 20
-  last = let n : j ≡ 20 = omega arith in subst (λ (j : ℕ). s ≡ powersTo Z j) n e
+module _ (w : ℕ) (Z : Bracket) {j : ℕ} {s : Powers} (h : j ≤ 20) (l : 20 ≤ j) (e : s ≡ powersTo w Z j) where
+  last : s ≡ powersTo w Z 20
+  last = let n : j ≡ 20 = omega arith in subst (λ (j : ℕ). s ≡ powersTo w Z j) n e
 
-  pub last-power : s .power ≡ lnPower 32 Z 20
+  pub last-power : s .power ≡ lnPower w Z 20
   last-power = ap (λ (s : Powers). s .power) last
 
-  pub last-sum : s .sum ≡ lnSum 32 Z 20
+  pub last-sum : s .sum ≡ lnSum w Z 20
   last-sum = ap (λ (s : Powers). s .sum) last
 
-  pub last-quotient : {q : Bracket} → q ≡ divided 32 (ends (s .power)) (whole 41) → q ≡ lnQuotient 32 Z 20
-  last-quotient d = d ∙ ap (λ (b : Bracket). divided 32 (ends b) (whole 41)) last-power ∙ sym (lnQuotient-is 32 Z 20)
+  pub last-quotient : {q : Bracket} → q ≡ divided w (ends (s .power)) (whole 41) → q ≡ lnQuotient w Z 20
+  last-quotient d = d ∙ ap (λ (b : Bracket). divided w (ends b) (whole 41)) last-power ∙ sym (lnQuotient-is w Z 20)
 
-  pub total-is : {q total : Bracket} → q ≡ divided 32 (ends (s .power)) (whole 41) → total ≡ addlast 32 (s .sum) q → total ≡ lnTotal 32 Z
+  pub total-is : {q total : Bracket} → q ≡ divided w (ends (s .power)) (whole 41) → total ≡ addlast w (s .sum) q → total ≡ lnTotal w Z
   unfolding lnTotal
-  total-is d i = i ∙ ap₂ (addlast 32) last-sum (last-quotient d)
+  total-is d i = i ∙ ap₂ (addlast w) last-sum (last-quotient d)
 
-pub answer-is : (Z : Bracket) {total two r : Bracket} → total ≡ lnTotal 32 Z → two ≡ given 32 (nat 2) → r ≡ times 32 (ends two) (ends total) → r ≡ lnSeries 32 Z
+pub answer-is : {v : ℕ} → Width v → (Z : Bracket) {total two r : Bracket} → total ≡ lnTotal (suc v) Z → two ≡ given (suc v) (nat 2) → r ≡ times (suc v) (ends two) (ends total) → r ≡ lnSeries (suc v) Z
 unfolding lnSeries
-answer-is Z {total} {two} a d i =
-    i ∙ ap (λ (b : Bracket). times 32 (ends two) (ends b)) a ∙ times-whole 31 2 (lit≤ tt) d (ends (lnTotal 32 Z))
+answer-is {v} w Z {total} {two} a d i =
+    i ∙ ap (λ (b : Bracket). times (suc v) (ends two) (ends b)) a ∙ times-whole v 2 (few-digits w (lit≤ tt)) d (ends (lnTotal (suc v) Z))

@@ -1,7 +1,7 @@
 -- The rule of the density ratio step by step, as the code calls, and what the code's operations are given. Assumes nothing.
 use mathlib.Core.Path.{_≡_, sym, ap, ap₂, _∙_, subst}
 use mathlib.Core.Bool.{false}
-use Prim.Native.Nat.{ℕ, _^_, _≤_, _<_}
+use Prim.Native.Nat.{ℕ, suc, _^_, _≤_, _<_}
 use native.Mathlib.Omega.{arith}
 use lib.Dec.{T, lit≤}
 use lib.Ieee.{Float}
@@ -11,6 +11,8 @@ use Rattle.exact.specs.Fraction.{Fraction, nat, parts, _≼_, _≺_}
 use Rattle.exact.specs.Fraction.Order.{≼-by, ≼-trans}
 use Rattle.exact.specs.Fraction.Parts.{parts-nonneg}
 use Rattle.sheet.specs.Number.{value}
+use Rattle.sheet.specs.Range.{Width}
+use Rattle.sheet.proofs.Live.{few-digits}
 use Rattle.doubles.specs.Double.{exactOf}
 use Rattle.doubles.specs.Ratio.{ratioExponent, IsLargest}
 use Rattle.doubles.proofs.Within.{Inside, inside}
@@ -66,54 +68,59 @@ pub small-power : (k : ℕ) → k ≤ 20 → 2 ^ k < 2 ^ 32
 small-power k h = pow-lt {i = k} {j = 32} (omega arith)
 
 -- ---- r: g, w, d and r are what the code's calls give
-module _ (liquid vapour : Fraction) (k : ℕ) (few : k ≤ 20) {g w d : Bracket} (a : g ≡ given 32 vapour) (b : w ≡ given 32 (nat (2 ^ k))) (e : d ≡ times 32 (ends g) (ends w)) where
-  divisor-is : d ≡ times 32 (ends (given 32 vapour)) (whole (2 ^ k))
+module _ {v : ℕ} (width : Width v) (liquid vapour : Fraction) (k : ℕ) (few : k ≤ 20) {g w d : Bracket} (a : g ≡ given (suc v) vapour) (b : w ≡ given (suc v) (nat (2 ^ k)))
+    (e : d ≡ times (suc v) (ends g) (ends w)) where
+  divisor-is : d ≡ times (suc v) (ends (given (suc v) vapour)) (whole (2 ^ k))
   divisor-is =
-      e ∙ ap₂ (λ (g w : Bracket). times 32 (ends g) (ends w)) a b
-      ∙ times-≃ 31 (≃-refl (ends (given 32 vapour))) (given-whole 31 (2 ^ k) (small-power k few))
+      e ∙ ap₂ (λ (g w : Bracket). times (suc v) (ends g) (ends w)) a b
+      ∙ times-≃ v (≃-refl (ends (given (suc v) vapour))) (given-whole v (2 ^ k) (few-digits width (small-power k few)))
 
-  pub divisor-is-held : parts false 1 1024 ≼ vapour → vapour ≼ nat 1288 → Held d
-  divisor-is-held l h = held-as divisor-is (divisor-held k few l h)
+  pub divisor-is-held : parts false 1 1024 ≼ vapour → vapour ≼ nat 1288 → Held v d
+  divisor-is-held l h = held-as divisor-is (divisor-held width k few l h)
 
   pub divisor-is-above : parts false 1 1024 ≼ vapour → nat 0 ≺ value (d .lo)
-  divisor-is-above l = subst (λ (b : Bracket). nat 0 ≺ value (b .lo)) (sym divisor-is) (divisor-positive 31 k l)
+  divisor-is-above l = subst (λ (b : Bracket). nat 0 ≺ value (b .lo)) (sym divisor-is) (divisor-positive v k l)
 
-  pub r-is : {l r : Bracket} → l ≡ given 32 liquid → r ≡ divided 32 (ends l) (ends d) → r ≡ ratioR 32 liquid vapour k
+  pub r-is : {l r : Bracket} → l ≡ given (suc v) liquid → r ≡ divided (suc v) (ends l) (ends d) → r ≡ ratioR (suc v) liquid vapour k
   unfolding ratioR
-  r-is c f = f ∙ ap₂ (λ (l d : Bracket). divided 32 (ends l) (ends d)) c divisor-is
+  r-is c f = f ∙ ap₂ (λ (l d : Bracket). divided (suc v) (ends l) (ends d)) c divisor-is
 
 -- ---- z
-module _ {R one : Bracket} (n : NearOne R) (i : one ≡ given 32 (nat 1)) where
-  less-is : {m : Bracket} → m ≡ minus 32 (ends R) (ends one) → m ≡ minus 32 (ends R) (whole 1)
-  less-is e = e ∙ minus-whole 31 1 (lit≤ tt) i (ends R)
+module _ {v : ℕ} {R one : Bracket} (n : NearOne v R) (i : one ≡ given (suc v) (nat 1)) where
+  one-small : 1 < 2 ^ suc v
+  one-small = few-digits (n .held .lo .width) (lit≤ tt)
 
-  more-is : {m : Bracket} → m ≡ plus 32 (ends R) (ends one) → m ≡ plus 32 (ends R) (whole 1)
+  less-is : {m : Bracket} → m ≡ minus (suc v) (ends R) (ends one) → m ≡ minus (suc v) (ends R) (whole 1)
+  less-is e = e ∙ minus-whole v 1 one-small i (ends R)
+
+  more-is : {m : Bracket} → m ≡ plus (suc v) (ends R) (ends one) → m ≡ plus (suc v) (ends R) (whole 1)
   more-is e =
-      e ∙ ap (λ (o : Bracket). plus 32 (ends R) (ends o)) i ∙ plus-≃ 31 (≃-refl (ends R)) (given-whole 31 1 (lit≤ tt))
+      e ∙ ap (λ (o : Bracket). plus (suc v) (ends R) (ends o)) i ∙ plus-≃ v (≃-refl (ends R)) (given-whole v 1 one-small)
 
-  pub less-is-held : {m : Bracket} → m ≡ minus 32 (ends R) (ends one) → Held m
+  pub less-is-held : {m : Bracket} → m ≡ minus (suc v) (ends R) (ends one) → Held v m
   less-is-held e = held-as (less-is e) (less-held n)
 
-  pub more-is-held : {m : Bracket} → m ≡ plus 32 (ends R) (ends one) → Held m
+  pub more-is-held : {m : Bracket} → m ≡ plus (suc v) (ends R) (ends one) → Held v m
   more-is-held e = held-as (more-is e) (more-held n)
 
-  pub more-is-above : {m : Bracket} → m ≡ plus 32 (ends R) (ends one) → nat 0 ≺ value (m .lo)
+  pub more-is-above : {m : Bracket} → m ≡ plus (suc v) (ends R) (ends one) → nat 0 ≺ value (m .lo)
   more-is-above e = subst (λ (b : Bracket). nat 0 ≺ value (b .lo)) (sym (more-is e)) (more-above n)
 
-  pub z-is : {u v z : Bracket} → u ≡ minus 32 (ends R) (ends one) → v ≡ plus 32 (ends R) (ends one) → z ≡ divided 32 (ends u) (ends v) → z ≡ ratioZ 32 R
+  pub z-is : {a b z : Bracket} → a ≡ minus (suc v) (ends R) (ends one) → b ≡ plus (suc v) (ends R) (ends one) → z ≡ divided (suc v) (ends a) (ends b) → z ≡ ratioZ (suc v) R
   unfolding ratioZ
-  z-is a b e = e ∙ ap₂ (λ (u v : Bracket). divided 32 (ends u) (ends v)) (less-is a) (more-is b)
+  z-is p q e = e ∙ ap₂ (λ (a b : Bracket). divided (suc v) (ends a) (ends b)) (less-is p) (more-is q)
 
 -- ---- the answer
-pub lnR-is : (liquid vapour : Fraction) (k : ℕ) {r z l : Bracket} → r ≡ ratioR 32 liquid vapour k → z ≡ ratioZ 32 r → l ≡ lnSeries 32 z
-    → l ≡ lnSeries 32 (ratioZ 32 (ratioR 32 liquid vapour k))
-lnR-is liquid vapour k a b e = e ∙ ap (lnSeries 32) (b ∙ ap (ratioZ 32) a)
+pub lnR-is : (w : ℕ) (liquid vapour : Fraction) (k : ℕ) {r z l : Bracket} → r ≡ ratioR w liquid vapour k → z ≡ ratioZ w r → l ≡ lnSeries w z
+    → l ≡ lnSeries w (ratioZ w (ratioR w liquid vapour k))
+lnR-is w liquid vapour k a b e = e ∙ ap (lnSeries w) (b ∙ ap (ratioZ w) a)
 
-pub multiple-is : (k : ℕ) {w t m : Bracket} → k ≤ 20 → w ≡ given 32 (nat k) → t ≡ lnTwo 32 → m ≡ times 32 (ends w) (ends t) → m ≡ times 32 (whole k) (ends (lnTwo 32))
-multiple-is k {w} h a b e =
-    e ∙ ap (λ (t : Bracket). times 32 (ends w) (ends t)) b ∙ times-whole 31 k (omega arith) a (ends (lnTwo 32))
+pub multiple-is : {v : ℕ} → Width v → (k : ℕ) {n t m : Bracket} → k ≤ 20 → n ≡ given (suc v) (nat k) → t ≡ lnTwo (suc v) → m ≡ times (suc v) (ends n) (ends t)
+    → m ≡ times (suc v) (whole k) (ends (lnTwo (suc v)))
+multiple-is {v} w k {n} h a b e =
+    e ∙ ap (λ (t : Bracket). times (suc v) (ends n) (ends t)) b ∙ times-whole v k (few-digits w (omega arith)) a (ends (lnTwo (suc v)))
 
-pub ln-is : (liquid vapour : Fraction) {m l r : Bracket} → m ≡ times 32 (whole (ratioExponent liquid vapour)) (ends (lnTwo 32))
-    → l ≡ lnSeries 32 (ratioZ 32 (ratioR 32 liquid vapour (ratioExponent liquid vapour))) → r ≡ plus 32 (ends m) (ends l) → r ≡ lnRatio 32 liquid vapour
+pub ln-is : (w : ℕ) (liquid vapour : Fraction) {m l r : Bracket} → m ≡ times w (whole (ratioExponent liquid vapour)) (ends (lnTwo w))
+    → l ≡ lnSeries w (ratioZ w (ratioR w liquid vapour (ratioExponent liquid vapour))) → r ≡ plus w (ends m) (ends l) → r ≡ lnRatio w liquid vapour
 unfolding lnRatio lnScaled
-ln-is liquid vapour a b e = e ∙ ap₂ (λ (m l : Bracket). plus 32 (ends m) (ends l)) a b
+ln-is w liquid vapour a b e = e ∙ ap₂ (λ (m l : Bracket). plus w (ends m) (ends l)) a b

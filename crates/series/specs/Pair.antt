@@ -1,4 +1,5 @@
 -- What the logarithm of a density ratio asks of its two densities, and of r on the way. Assumes nothing.
+use Prim.Native.Nat.{ℕ}
 use lib.Dec.{T}
 use lib.Ieee.{Float}
 use mathlib.Core.Bool.{false}
@@ -16,7 +17,7 @@ pub record Pair (liquid vapour : Float) : Type 0 where
   pub order : T (leq (exactOf vapour) (exactOf liquid))
 
 -- from 1/2 to 5/2
-pub record NearOne (R : Bracket) : Type 0 where
-  pub held : Held R
+pub record NearOne (v : ℕ) (R : Bracket) : Type 0 where
+  pub held : Held v R
   pub least : parts false 1 2 ≼ value (R .lo)
   pub most : value (R .hi) ≼ parts false 5 2

@@ -1,5 +1,5 @@
 -- The logarithm's series as the code takes it: what is asked of z, and the power and the sum after j steps. Assumes nothing.
-use Prim.Native.Nat.{ℕ, _-_}
+use Prim.Native.Nat.{ℕ, _+_, _-_}
 use Rattle.exact.specs.Fraction.{nat, _≼_}
 use Rattle.sheet.specs.Number.{bias, value}
 use Rattle.bracket.specs.declared.Bracket.{Bracket}
@@ -10,11 +10,11 @@ use Rattle.measure.specs.Measure.{Sized}
 use Rattle.series.specs.declared.logarithm.Powers.{Powers}
 use Rattle.series.specs.Logarithm.{lnPower, lnSum}
 
--- at most 1 in size, zero or at least 2^-34, and the upper end not below zero
-pub record Argument (Z : Bracket) : Type 0 where
-  pub held : Held Z
-  pub sized : Each (Sized (bias - 34) bias) (ends Z)
+-- at most 1 in size, zero or at least 2^-(v + 3), and the upper end not below zero
+pub record Argument (v : ℕ) (Z : Bracket) : Type 0 where
+  pub held : Held v Z
+  pub sized : Each (Sized (bias - (v + 3)) bias) (ends Z)
   pub reach : nat 0 ≼ value (Z .hi)
 
-abbrev pub powersTo : Bracket → ℕ → Powers
-powersTo Z j = record { power = lnPower 32 Z j; sum = lnSum 32 Z j }
+abbrev pub powersTo : ℕ → Bracket → ℕ → Powers
+powersTo w Z j = record { power = lnPower w Z j; sum = lnSum w Z j }

@@ -20,5 +20,5 @@ pub record Factor (X : Span) : Type 0 where
   pub order : X .low ≼ X .high
   pub most : X .high ≼ nat 64
 
-abbrev pub termsTo : Span → ℕ → Terms
-termsTo X k = record { term = expTerm 32 X k; sum = expSum 32 X k }
+abbrev pub termsTo : ℕ → Span → ℕ → Terms
+termsTo w X k = record { term = expTerm w X k; sum = expSum w X k }

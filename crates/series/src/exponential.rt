@@ -3,7 +3,7 @@
 use bracket::Bracket;
 ghost use mathlib.Core.Path.{_≡_};
 ghost use mathlib.Core.Bool.{true};
-ghost use Prim.Native.Nat.{_+_, _-_, _<_};
+ghost use Prim.Native.Nat.{suc, _+_, _-_, _<_};
 ghost use Rattle.bracket.specs.Rules.{ends, stretched};
 ghost use Rattle.bracket.specs.Held.{Held};
 ghost use Rattle.series.specs.Exponential.{expTotal, expneg};
@@ -16,61 +16,61 @@ struct Terms {
 }
 
 // Term k + 1 is (term k times x) divided by k + 1.
-fn one_more(x: Bracket, s: Terms, k: u64) -> Terms
-    requires { ⌜ Held x × Taken (ends x) × (k < 256) × (s ≡ termsTo (ends x) k) ⌝ }
-    ensures { λ r. ⌜ r ≡ termsTo (ends x) (k + 1) ⌝ }
+fn one_more(v: u64, x: Bracket, s: Terms, k: u64) -> Terms
+    requires { ⌜ Held v x × Taken (ends x) × (k < 256) × (s ≡ termsTo (suc v) (ends x) k) ⌝ }
+    ensures { λ r. ⌜ r ≡ termsTo (suc v) (ends x) (k + 1) ⌝ }
 {
-    let product = bracket::product(s.term, x);
-    let term = bracket::quotient(product, bracket::whole(k + 1));
-    let sum = bracket::sum(s.sum, term);
+    let product = bracket::product(v, s.term, x);
+    let term = bracket::share(v, product, k + 1);
+    let sum = bracket::sum(v, s.sum, term);
     Terms { term, sum }
 }
 
 // Whether every step from here on only moves the sum's upper end to the next sheet number: the terms are above zero and no longer grow, and
 // the power of two above term k lies below one unit of the sum's last place. Each term to come takes such a step, and so does the last one
 // when it counts once more.
-fn only_stretches(x: Bracket, s: Terms, k: u64) -> bool
-    requires { ⌜ Held x × Taken (ends x) × (k < 256) × (s ≡ termsTo (ends x) k) ⌝ }
-    ensures { λ r. ⌜ (r ≡ true → expTotal 32 (ends x) ≡ stretched 32 (257 - k) (s .sum)) ⌝ }
+fn only_stretches(v: u64, x: Bracket, s: Terms, k: u64) -> bool
+    requires { ⌜ Held v x × Taken (ends x) × (k < 256) × (s ≡ termsTo (suc v) (ends x) k) ⌝ }
+    ensures { λ r. ⌜ (r ≡ true → expTotal (suc v) (ends x) ≡ stretched (suc v) (257 - k) (s .sum)) ⌝ }
 {
     let term_place = s.term.hi.e;
     let sum_place = s.sum.lo.e;
     let digits = x.hi.m;
-    if sum_place <= term_place + 32 {
+    if sum_place <= term_place + v + 1 {
         return false;
     }
     if digits == 0 {
         return false;
     }
-    sheet::at_most(x.hi, sheet::whole(k + 1))
+    sheet::at_most(x.hi, sheet::whole(v, k + 1))
 }
 
 // The sum to 256, with the last term's upper end once more in its upper end.
-fn total(x: Bracket) -> Bracket
-    requires { ⌜ Held x × Taken (ends x) ⌝ }
-    ensures { λ r. ⌜ r ≡ expTotal 32 (ends x) ⌝ }
+fn total(v: u64, x: Bracket) -> Bracket
+    requires { ⌜ Held v x × Taken (ends x) ⌝ }
+    ensures { λ r. ⌜ r ≡ expTotal (suc v) (ends x) ⌝ }
 {
-    let one = bracket::whole(1);
+    let one = bracket::whole(v, 1);
     let mut s = Terms {
         term: one,
         sum: one,
     };
     let mut k = 0;
     while k < 256 {
-        if only_stretches(x, s, k) {
-            return bracket::stretched(s.sum, 257 - k);
+        if only_stretches(v, x, s, k) {
+            return bracket::stretched(v, s.sum, 257 - k);
         }
-        s = one_more(x, s, k);
+        s = one_more(v, x, s, k);
         k += 1;
     }
-    bracket::add_last(s.sum, s.term)
+    bracket::add_last(v, s.sum, s.term)
 }
 
 // 1 divided by that.
-pub fn expneg(x: Bracket) -> Bracket
-    requires { ⌜ Held x × Taken (ends x) ⌝ }
-    ensures { λ r. ⌜ r ≡ expneg 32 (ends x) ⌝ }
+pub fn expneg(v: u64, x: Bracket) -> Bracket
+    requires { ⌜ Held v x × Taken (ends x) ⌝ }
+    ensures { λ r. ⌜ r ≡ expneg (suc v) (ends x) ⌝ }
 {
-    let one = bracket::whole(1);
-    bracket::quotient(one, total(x))
+    let one = bracket::whole(v, 1);
+    bracket::quotient(v, one, total(v, x))
 }

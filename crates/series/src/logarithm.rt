@@ -1,7 +1,8 @@
 // The logarithm's series: odd powers of z, each divided by its own exponent, summed left to right and doubled.
 use bracket::Bracket;
 ghost use mathlib.Core.Path.{_≡_};
-ghost use Prim.Native.Nat.{_+_, _*_, _<_, _≤_};
+ghost use Prim.Native.Nat.{suc, _+_, _*_, _<_, _≤_};
+ghost use Rattle.sheet.specs.Range.{Width};
 ghost use Rattle.bracket.specs.Rules.{ends, times, divided};
 ghost use Rattle.bracket.specs.Span.{whole};
 ghost use Rattle.bracket.specs.Held.{Held};
@@ -15,45 +16,46 @@ struct Powers {
 }
 
 // Power j divided by 2j + 1.
-fn share(power: Bracket, j: u64) -> Bracket
-    requires { ⌜ Held power × (j ≤ 20) ⌝ }
-    ensures { λ r. ⌜ r ≡ divided 32 (ends power) (whole (2 * j + 1)) ⌝ }
+fn share(v: u64, power: Bracket, j: u64) -> Bracket
+    requires { ⌜ Held v power × (j ≤ 20) ⌝ }
+    ensures { λ r. ⌜ r ≡ divided (suc v) (ends power) (whole (2 * j + 1)) ⌝ }
 {
-    bracket::quotient(power, bracket::whole(2 * j + 1))
+    bracket::share(v, power, 2 * j + 1)
 }
 
 // The next power is the one before times (z times z).
-fn one_more(z: Bracket, square: Bracket, s: Powers, j: u64) -> Powers
-    requires { ⌜ Argument z × (j < 20) × (square ≡ times 32 (ends z) (ends z)) × (s ≡ powersTo z j) ⌝ }
-    ensures { λ r. ⌜ r ≡ powersTo z (j + 1) ⌝ }
+fn one_more(v: u64, z: Bracket, square: Bracket, s: Powers, j: u64) -> Powers
+    requires { ⌜ Argument v z × (j < 20) × (square ≡ times (suc v) (ends z) (ends z)) × (s ≡ powersTo (suc v) z j) ⌝ }
+    ensures { λ r. ⌜ r ≡ powersTo (suc v) z (j + 1) ⌝ }
 {
-    let power = bracket::product(s.power, square);
-    let sum = bracket::sum(s.sum, share(power, j + 1));
+    let power = bracket::product(v, s.power, square);
+    let sum = bracket::sum(v, s.sum, share(v, power, j + 1));
     Powers { power, sum }
 }
 
 // The last quotient's upper end counts once more in the upper end of the sum; then doubled.
-pub fn ln_series(z: Bracket) -> Bracket
-    requires { ⌜ Argument z ⌝ }
-    ensures { λ r. ⌜ r ≡ lnSeries 32 z ⌝ }
+pub fn ln_series(v: u64, z: Bracket) -> Bracket
+    requires { ⌜ Argument v z ⌝ }
+    ensures { λ r. ⌜ r ≡ lnSeries (suc v) z ⌝ }
 {
-    let square = bracket::product(z, z);
+    let square = bracket::product(v, z, z);
     let mut s = Powers {
         power: z,
-        sum: share(z, 0),
+        sum: share(v, z, 0),
     };
     let mut j = 0;
     while j < 20 {
-        s = one_more(z, square, s, j);
+        s = one_more(v, z, square, s, j);
         j += 1;
     }
-    let total = bracket::add_last(s.sum, share(s.power, 20));
-    bracket::product(bracket::whole(2), total)
+    let total = bracket::add_last(v, s.sum, share(v, s.power, 20));
+    bracket::product(v, bracket::whole(v, 2), total)
 }
 
 // The same rule with z = 1/3.
-pub fn ln_two() -> Bracket
-    ensures { λ r. ⌜ r ≡ lnTwo 32 ⌝ }
+pub fn ln_two(v: u64) -> Bracket
+    requires { ⌜ Width v ⌝ }
+    ensures { λ r. ⌜ r ≡ lnTwo (suc v) ⌝ }
 {
-    ln_series(bracket::given_ratio(false, 1, 3))
+    ln_series(v, bracket::given_ratio(v, false, 1, 3))
 }

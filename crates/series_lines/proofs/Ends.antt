@@ -1,8 +1,8 @@
--- From the digits and the place of a number to what the exponential asks of an end. Assumes nothing.
+-- From the digits and the place of a number in range to what the exponential asks of an end. Assumes nothing.
 use mathlib.Core.Path.{_≡_}
 use mathlib.Core.Logic.{inl, inr}
 use mathlib.Core.Bool.{false}
-use Prim.Native.Nat.{ℕ, _+_, _-_, _*_, _^_, _≤_, _<_}
+use Prim.Native.Nat.{ℕ, suc, _+_, _-_, _*_, _^_, _≤_, _<_}
 use native.Mathlib.Nat.{le-of-lt, le-of-eq, le-trans, mul-le-mul-right}
 use native.Mathlib.Omega.{arith}
 use lib.Pow.{pow-pos, pow-mono, pow-add}
@@ -10,20 +10,20 @@ use Rattle.exact.specs.Fraction.{nat, _≼_}
 use Rattle.exact.specs.Fraction.Order.{≈-refl}
 use Rattle.exact.specs.Fraction.Parts.{parts-nonneg}
 use Rattle.sheet.specs.declared.Sheet.{Sheet}
-use Rattle.sheet.specs.Number.{bias, value, plainZero}
-use Rattle.sheet.proofs.Live.{bias-is}
+use Rattle.sheet.specs.Number.{bias, value}
+use Rattle.sheet.specs.Range.{InRange}
+use Rattle.sheet.proofs.Live.{Live, bias-is, live}
 use Rattle.series_lines.specs.End.{End}
 
 nonneg : (s : Sheet) → s .neg ≡ false → nat 0 ≼ value s
 unfolding value
 nonneg s n = rw n (parts-nonneg (s .m * 2 ^ s .e) (2 ^ bias))
 
-pub nothing : (s : Sheet) → s .neg ≡ false → s .m ≡ 0 → s .e ≡ 0 → End s
+pub nothing : {v : ℕ} {s : Sheet} → InRange v s → s .neg ≡ false → s .m ≡ 0 → End v s
 unfolding value
-nothing s n z b =
-    let e : s ≡ plainZero = λ i. record { neg = n i; m = z i; e = b i } in
+nothing {v} {s} r n z =
     record {
-      range = record { normal = inl e; exponent = inl e };
+      range = r;
       above = nonneg s n;
       sized = record {
         neg = s .neg;
@@ -37,19 +37,18 @@ nothing s n z b =
     }
 
 -- the size of m · 2^e units
-low : (m e : ℕ) → 2 ^ 31 ≤ m → 262049 ≤ e → 2 ^ (bias - 64) ≤ m * 2 ^ e
-low m e h k =
+low : (v m e : ℕ) → v ≤ 52 → 2 ^ v ≤ m → 262080 - v ≤ e → 2 ^ (bias - 64) ≤ m * 2 ^ e
+low v m e w h k =
     let b = bias-is in
-    let p = pow-mono {i = bias - 64} {j = 31 + e} (omega arith) in
-    let q = pow-add 2 31 e in
+    let p = pow-mono {i = bias - 64} {j = v + e} (omega arith) in
+    let q = pow-add 2 v e in
     le-trans p (le-trans (omega arith) (mul-le-mul-right (2 ^ e) h))
 
-pub some : (s : Sheet) → s .neg ≡ false → 2 ^ 31 ≤ s .m → s .m < 2 ^ 32 → 262049 ≤ s .e → s .e ≤ 262120 → s .m * 2 ^ s .e ≤ 2 ^ (bias + 7) → End s
+some : {v : ℕ} {s : Sheet} → InRange v s → s .neg ≡ false → 2 ^ v ≤ s .m → 262080 - v ≤ s .e → s .m * 2 ^ s .e ≤ 2 ^ (bias + 7) → End v s
 unfolding value
-some s n l h a b t =
-    let c = bias-is in
+some {v} {s} r n l a t =
     record {
-      range = record { normal = inr (record { low = l; high = h }); exponent = inr (omega arith, omega arith) };
+      range = r;
       above = nonneg s n;
       sized = record {
         neg = s .neg;
@@ -57,24 +56,31 @@ some s n l h a b t =
         den = 2 ^ bias;
         is = ≈-refl (value s);
         some = pow-pos bias;
-        least = inr (mul-le-mul-right (2 ^ bias) (low (s .m) (s .e) l a));
+        least = inr (mul-le-mul-right (2 ^ bias) (low v (s .m) (s .e) (r .width .high) l a));
         most = mul-le-mul-right (2 ^ bias) t;
       };
     }
 
--- below 128, and 128 itself
-pub under : (m e : ℕ) → m < 2 ^ 32 → e < 262120 → m * 2 ^ e ≤ 2 ^ (bias + 7)
-under m e h k =
+-- 2^w at a place, or less
+most : (w m e : ℕ) → m ≤ 2 ^ w → w + e ≤ 262151 → m * 2 ^ e ≤ 2 ^ (bias + 7)
+most w m e h k =
     let b = bias-is in
-    let p = pow-mono {i = 32 + e} {j = bias + 7} (omega arith) in
-    let q = pow-add 2 32 e in
-    let r : m * 2 ^ e ≤ 2 ^ 32 * 2 ^ e = mul-le-mul-right (2 ^ e) (le-of-lt h) in
+    let p = pow-mono {i = w + e} {j = bias + 7} (omega arith) in
+    let q = pow-add 2 w e in
+    let r : m * 2 ^ e ≤ 2 ^ w * 2 ^ e = mul-le-mul-right (2 ^ e) h in
     le-trans r (le-trans (omega arith) p)
 
-pub exactly : (m e : ℕ) → m ≡ 2 ^ 31 → e ≡ 262120 → m * 2 ^ e ≤ 2 ^ (bias + 7)
-exactly m e h k =
-    let b = bias-is in
-    let p = pow-mono {i = 31 + e} {j = bias + 7} (omega arith) in
-    let q = pow-add 2 31 e in
-    let r : m * 2 ^ e ≤ 2 ^ 31 * 2 ^ e = mul-le-mul-right (2 ^ e) (le-of-eq h) in
-    le-trans r (le-trans (omega arith) p)
+-- below 128, and 128 itself
+module _ {v : ℕ} {s : Sheet} (r : InRange v s) (n : s .neg ≡ false) (z : s .m ≡ 0 → ⊥) (a : 262080 - v ≤ s .e) where
+  digits : Live v 20000 20000 s
+  digits = live v 20000 20000 s (r .within) z
+
+  pub under : s .e < 262151 - v → End v s
+  under b =
+      let w = r .width .high in
+      some r n (digits .full) a (most (suc v) (s .m) (s .e) (le-of-lt (digits .small)) (omega arith))
+
+  pub exactly : s .e ≡ 262151 - v → s .m ≡ 2 ^ v → End v s
+  exactly b i =
+      let w = r .width .high in
+      some r n (digits .full) a (most v (s .m) (s .e) (le-of-eq i) (omega arith))

@@ -1,5 +1,5 @@
 -- An end that the exponential takes. Assumes nothing.
-use Prim.Native.Nat.{_+_, _-_}
+use Prim.Native.Nat.{ℕ, _+_, _-_}
 use Rattle.exact.specs.Fraction.{nat, _≼_}
 use Rattle.sheet.specs.declared.Sheet.{Sheet}
 use Rattle.sheet.specs.Number.{bias, value}
@@ -7,7 +7,7 @@ use Rattle.sheet.specs.Range.{InRange}
 use Rattle.measure.specs.Measure.{Sized}
 
 -- in range, not below zero, and zero or from 2^-64 to 128
-pub record End (s : Sheet) : Type 0 where
-  pub range : InRange s
+pub record End (v : ℕ) (s : Sheet) : Type 0 where
+  pub range : InRange v s
   pub above : nat 0 ≼ value s
   pub sized : Sized (bias - 64) (bias + 7) (value s)

@@ -2,16 +2,18 @@
 use mathlib.Core.Path.{_≡_, refl, sym, ap, _∙_}
 use mathlib.Core.Logic.{⊎-elim}
 use mathlib.Core.Bool.{Bool, true, false, not}
-use Prim.Native.Nat.{ℕ, _+_, _-_, _*_, _/_, _%_, _^_, _≤_, _<_}
-use native.Mathlib.Nat.{mul-pos, mul-assoc, zero-mul, add-zero, mul-lt-mul-of-pos-right, pos-of-ne-zero, div-add-mod', mod-lt, div-le-self, div-eq-of-lt, div-lt-iff-lt-mul, le-div-iff-mul-le}
+use Prim.Native.Nat.{ℕ, suc, _+_, _-_, _*_, _/_, _%_, _^_, _≤_, _<_}
+use native.Mathlib.Nat.{mul-pos, mul-assoc, zero-mul, add-zero, mul-lt-mul-of-pos-right, pos-of-ne-zero, div-add-mod', mod-lt, div-le-self, div-eq-of-lt, div-lt-iff-lt-mul, le-div-iff-mul-le, lt-of-mul-lt-mul-right, mul-le-mul-left, mul-le-mul-right}
 use native.Mathlib.Omega.{arith}
 use borrow.Author.Tests.{eqb-true, eqb-false}
 use lib.Count.{leadingZeros}
 use lib.Dec.{eqb}
-use lib.Pow.{pow-pos}
-use Rattle.sheet.specs.declared.given.Division.{Division}
+use lib.Pow.{pow-add, pow-pos}
+use Rattle.sheet.specs.declared.divide.Outcome.{Outcome}
+use Rattle.sheet.specs.declared.division.Division.{Division}
 use Rattle.sheet.specs.Magnitude.{Place, Cut}
-use Rattle.sheet.specs.Steps.{Lesser, Dividing, Divisible, BroughtDown}
+use Rattle.sheet.specs.Number.{Digits}
+use Rattle.sheet.specs.Steps.{Lesser, dividend, Divisible, BroughtDown, Quotes}
 use Rattle.sheet.proofs.Gaps.{le-or-lt, zero-or-pos}
 use Rattle.sheet.proofs.Shifts.{pow-part, up-fits, up-full, some-zeros}
 
@@ -23,14 +25,14 @@ lesser-pos {a} {b} {r} l p q = ⊎-elim (λ z. let e : r ≡ a = l .one (omega a
 module _ (den : ℕ) (x : Division) (d : Divisible den x) where
   -- both numbers leave room for a digit
   pub room-left : {free t : ℕ} → x .rest < den → Lesser (leadingZeros 64 (x .digits)) (leadingZeros 64 (x .rest)) free → Lesser free (x .place) t → 0 < t
-  room-left h l k = lesser-pos k (lesser-pos l (some-zeros (x .digits) (d .few)) (some-zeros (x .rest) (omega (arith, d .divisor .1)))) (d .place)
+  room-left h l k = lesser-pos k (lesser-pos l (some-zeros (x .digits) (d .few)) (some-zeros (x .rest) (omega (arith, d .begun .divisor .1)))) (d .begun .place)
 
   module _ (word : x .rest < 2 ^ 64) (t : ℕ) (f : t ≤ leadingZeros 64 (x .digits)) (g : t ≤ leadingZeros 64 (x .rest)) where
     -- one of the two is not zero
     pub within-word : t < 64
     within-word =
         ⊎-elim
-        (λ z. omega (arith, g, up-full (x .rest) (omega (arith, z, d .some)) word .0))
+        (λ z. omega (arith, g, up-full (x .rest) (omega (arith, z, d .begun .some)) word .0))
         (λ p. omega (arith, f, up-full (x .digits) p (omega (arith, d .few)) .0))
         (zero-or-pos (x .digits))
 
@@ -51,8 +53,8 @@ module _ (den : ℕ) (x : Division) (d : Divisible den x) where
 
         some : 0 < x .digits → x .digits * 2 ^ t + x .rest * 2 ^ t / den < 2 ^ 64
         some p =
-            let k : x .rest * 2 ^ t < den * 2 ^ t = mul-lt-mul-of-pos-right (d .left p) (pow-pos t) in
-            let q : x .rest * 2 ^ t / den < 2 ^ t = div-lt-iff-lt-mul (d .divisor .0) .1 (let m : x .rest * 2 ^ t < 2 ^ t * den = omega arith in m) in
+            let k : x .rest * 2 ^ t < den * 2 ^ t = mul-lt-mul-of-pos-right (d .begun .left p) (pow-pos t) in
+            let q : x .rest * 2 ^ t / den < 2 ^ t = div-lt-iff-lt-mul (d .begun .divisor .0) .1 (let m : x .rest * 2 ^ t < 2 ^ t * den = omega arith in m) in
             omega (arith, above)
 
 -- ---- t digits are brought down
@@ -77,19 +79,23 @@ bring den t x p some h =
 
 -- ---- the way of a division
 
-pub begins : (num den from : ℕ) → (0 * den + num) * 2 ^ from ≡ num * 2 ^ from
-begins num den from = ap (λ (k : ℕ). k * 2 ^ from) (omega arith)
+-- no digits yet, and all of the number left over
+pub all-left : (num den from : ℕ) → dividend den (record { digits = 0; rest = num; place = from }) ≡ num * 2 ^ from
+all-left num den from = ap (λ (k : ℕ). k * 2 ^ from) (omega arith)
 
 -- a number above zero leaves something to divide on the way
-pub left-over : (num den from : ℕ) (x : Division) → 0 < num → (x .digits * den + x .rest) * 2 ^ x .place ≡ num * 2 ^ from → 0 < x .digits + x .rest
-left-over num den from x p w = ⊎-elim (λ z. absurd (none z)) (λ h. h) (zero-or-pos (x .digits + x .rest))
+pub left-over : (den : ℕ) (x y : Division) → 0 < den → 0 < x .digits + x .rest → dividend den y ≡ dividend den x → 0 < y .digits + y .rest
+left-over den x y p s w = ⊎-elim (λ z. absurd (none z)) (λ h. h) (zero-or-pos (y .digits + y .rest))
   where
-    none : x .digits + x .rest ≡ 0 → ⊥
+    some : 0 < x .digits * den + x .rest
+    some = ⊎-elim (λ z. omega arith) (λ h. let q : 0 < x .digits * den = mul-pos h p in omega arith) (zero-or-pos (x .digits))
+
+    none : y .digits + y .rest ≡ 0 → ⊥
     none z =
-        let a : x .digits ≡ 0 = omega arith in
-        let b : x .rest ≡ 0 = omega arith in
-        let k : (0 * den + 0) * 2 ^ x .place ≡ num * 2 ^ from = rw (a, b) at w in
-        let q : 0 < num * 2 ^ from = mul-pos p (pow-pos from) in
+        let a : y .digits ≡ 0 = omega arith in
+        let b : y .rest ≡ 0 = omega arith in
+        let k : (0 * den + 0) * 2 ^ y .place ≡ dividend den x = rw (a, b) at w in
+        let q : 0 < dividend den x = mul-pos some (pow-pos (x .place)) in
         omega (arith, rw (zero-mul, add-zero, zero-mul) at k)
 
 -- each turn takes a place, and the first one the rest that is not yet below the divisor
@@ -108,20 +114,48 @@ falls den x y p b = ⊎-elim first later (le-or-lt den (x .rest))
     later : x .rest < den → y .place + y .rest / den < x .place + x .rest / den
     later h = let l = b .more h in rw none (omega arith)
 
-pub division-place : (num den from : ℕ) (x : Division) → Dividing num den from x → Place (x .digits) (not (eqb (x .rest) 0)) (x .place) (num * 2 ^ from) den
+pub division-place : (num den : ℕ) (x : Division) → dividend den x ≡ num → x .rest < den → Place (x .digits) (not (eqb (x .rest) 0)) (x .place) num den
 unfolding Cut
-division-place num den from x d = record { low = rest (eqb (x .rest) 0) refl; high = above }
+division-place num den x w l = record { low = rest (eqb (x .rest) 0) refl; high = above }
   where
-    n : ℕ
-    n = num * 2 ^ from
+    above : num < (x .digits + 1) * 2 ^ x .place * den
+    above = omega (arith, w, mul-lt-mul-of-pos-right l (pow-pos (x .place)))
 
-    above : num * 2 ^ from < (x .digits + 1) * 2 ^ x .place * den
-    above = omega (arith, d .whole, mul-lt-mul-of-pos-right (d .left) (pow-pos (x .place)))
-
-    rest : (b : Bool) → eqb (x .rest) 0 ≡ b → Cut (not b) (x .digits * 2 ^ x .place * den) (num * 2 ^ from)
+    rest : (b : Bool) → eqb (x .rest) 0 ≡ b → Cut (not b) (x .digits * 2 ^ x .place * den) num
     rest true t =
         let z : x .rest ≡ 0 = eqb-true (x .rest) 0 t in
-        omega (arith, d .whole, ap (λ (k : ℕ). k * 2 ^ x .place) z)
+        omega (arith, w, ap (λ (k : ℕ). k * 2 ^ x .place) z)
     rest false t =
         let p : 0 < x .rest = pos-of-ne-zero (eqb-false (x .rest) 0 t) in
-        omega (arith, d .whole, mul-pos p (pow-pos (x .place)))
+        omega (arith, w, mul-pos p (pow-pos (x .place)))
+
+-- ---- a division in one word
+
+pub quotes-place : (n den e : ℕ) (r : Outcome) → Quotes n den r → Place (r .digits) (not (eqb (r .rest) 0)) e (n * 2 ^ e) den
+quotes-place n den e r q =
+    division-place (n * 2 ^ e) den (record { digits = r .digits; rest = r .rest; place = e }) (ap (λ (k : ℕ). k * 2 ^ e) (q .whole)) (q .left)
+
+-- what is divided lies below one more of the digits
+quotes-below : (n den : ℕ) (r : Outcome) → Quotes n den r → n < (r .digits + 1) * den
+quotes-below n den r q = let w = q .whole in let l = q .left in omega arith
+
+-- enough to divide leaves enough digits
+pub quotes-least : (n den k : ℕ) (r : Outcome) → Quotes n den r → k * den ≤ n → k ≤ r .digits
+quotes-least n den k r q h =
+    let l : k * den < (r .digits + 1) * den = let b = quotes-below n den r q in omega arith in
+    let m : k < r .digits + 1 = lt-of-mul-lt-mul-right den l in
+    omega arith
+
+pub quotes-most : (n den k : ℕ) (r : Outcome) → Quotes n den r → n < k * den → r .digits < k
+quotes-most n den k r q h = lt-of-mul-lt-mul-right den (let w = q .whole in let l : r .digits * den < k * den = omega arith in l)
+
+-- suc v digits over suc v digits, suc v places up, are suc v or one more
+pub shared-digits : (v am bm : ℕ) (r : Outcome) → Quotes (am * 2 ^ suc v) bm r → Digits v am → Digits v bm → (2 ^ v ≤ r .digits) × (r .digits < 2 ^ suc (suc v))
+shared-digits v am bm r q h k =
+    let p = pow-pos v in
+    let a : 2 ^ v * bm ≤ 2 ^ v * 2 ^ suc v = mul-le-mul-left (2 ^ v) (let l = k .high in let g : bm ≤ 2 ^ suc v = omega arith in g) in
+    let b : 2 ^ v * 2 ^ suc v ≤ am * 2 ^ suc v = mul-le-mul-right (2 ^ suc v) (h .low) in
+    let c : am * 2 ^ suc v < 2 ^ suc v * 2 ^ suc v = mul-lt-mul-of-pos-right (h .high) (pow-pos (suc v)) in
+    let d : 2 ^ suc (suc v) * 2 ^ v ≤ 2 ^ suc (suc v) * bm = mul-le-mul-left (2 ^ suc (suc v)) (k .low) in
+    let e : 2 ^ suc (suc v) * 2 ^ v ≡ 2 ^ suc v * 2 ^ suc v = sym (pow-add 2 (suc (suc v)) v) ∙ ap (λ (k : ℕ). 2 ^ k) (let g : suc (suc v) + v ≡ suc v + suc v = omega arith in g) ∙ pow-add 2 (suc v) (suc v) in
+    (quotes-least (am * 2 ^ suc v) bm (2 ^ v) r q (omega arith), quotes-most (am * 2 ^ suc v) bm (2 ^ suc (suc v)) r q (omega arith))

@@ -71,6 +71,9 @@ ratio-zero up v neg num den z = round-nought up v (rw z (parts-zero neg den))
 pub whole-is : (up : Bool) (v n : ℕ) → round up (suc v) (nat n) ≡ signed false (roundMag (away up false) (suc v) (n * 2 ^ bias) 1)
 whole-is up v n = round-parts up v (nat n) false n 1 (n * 2 ^ bias) 1 (omega arith) (omega arith) (≈-sym (parts-nat n)) refl
 
+nat-pos : (n : ℕ) → 0 < n → nat 0 ≺ nat n
+nat-pos n p = ≺-≈-trans (parts-pos n 1 p) (parts-nat n)
+
 module _ (up : Bool) (v : ℕ) (a b : Sheet) where
   B : ℕ
   B = 2 ^ bias
@@ -118,6 +121,23 @@ module _ (up : Bool) (v : ℕ) (a b : Sheet) where
     where
       above : nat 0 ≺ value b
       above = rw n (parts-pos (extent b) (2 ^ bias) (mul-pos p (pow-pos (b .e))))
+
+  -- ---- quotient by a whole number
+
+  pub share-is : (e k n : ℕ) → 0 < n → e + k ≡ a .e
+      → round up (suc v) (value a ⊘ nat n) ≡ signed (a .neg) (roundMag (away up (a .neg)) (suc v) (a .m * 2 ^ k * 2 ^ e) n)
+  unfolding value B
+  share-is e k n p h =
+      round-parts up v (value a ⊘ nat n) (a .neg) (extent a * 1) (B * n) (a .m * 2 ^ k * 2 ^ e) n
+      (mul-pos (pow-pos bias) p) p
+      (≈-trans (⊘-cong (nat-pos n p) (≈-refl (value a)) (≈-sym (parts-nat n))) (parts-⊘ (a .neg) (extent a) B n 1 (pow-pos bias) p (omega arith)))
+      (omega (arith, ap (λ (x : ℕ). a .m * x * (B * n)) powers))
+    where
+      powers : 2 ^ e * 2 ^ k ≡ 2 ^ a .e
+      powers = sym (pow-add 2 e k) ∙ ap (λ (x : ℕ). 2 ^ x) h
+
+  pub share-zero : (n : ℕ) → 0 < n → a .m ≡ 0 → round up (suc v) (value a ⊘ nat n) ≡ plainZero
+  share-zero n p z = round-nought up v (≈-trans (⊘-cong (nat-pos n p) (zero-value a z) (≈-refl (nat n))) (zero-⊘ (nat n)))
 
   -- ---- sum
 

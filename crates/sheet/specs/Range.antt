@@ -27,9 +27,16 @@ pub record Within (v lo hi : ℕ) (s : Sheet) : Type 0 where
   pub normal : Normal v s
   pub exponent : Exponent lo hi s
 
--- what the operations at 32 bits take
-abbrev pub InRange : Sheet → Type 0
-InRange s = Within 31 20000 20000 s
+-- one less than a width: sheet numbers have 32 bits or 53 (02 d)
+pub record Width (v : ℕ) : Type 0 where
+  pub low : 31 ≤ v
+  pub high : v ≤ 52
+  pub either : (v ≡ 31) ⊎ (v ≡ 52)
+
+-- what the operations take: a sheet number of either width, with an exponent from -20,000 to 20,000
+pub record InRange (v : ℕ) (s : Sheet) : Type 0 where
+  pub width : Width v
+  pub within : Within v 20000 20000 s
 
 -- the value is exactly an f64: a multiple of 2^-1074 below 2^1024
 pub record Doubled (s : Sheet) : Type 0 where

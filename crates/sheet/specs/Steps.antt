@@ -3,10 +3,11 @@ use mathlib.Core.Path.{_≡_}
 use mathlib.Core.Bool.{Bool, true, false}
 use Prim.Native.Nat.{ℕ, suc, _+_, _-_, _*_, _/_, _^_, _≤_, _<_}
 use Rattle.sheet.specs.declared.Sheet.{Sheet}
-use Rattle.sheet.specs.declared.given.Division.{Division}
+use Rattle.sheet.specs.declared.divide.Outcome.{Outcome}
+use Rattle.sheet.specs.declared.division.Division.{Division}
 use Rattle.sheet.specs.declared.place.Found.{Found}
-use Rattle.sheet.specs.Magnitude.{Place, roundMag}
-use Rattle.sheet.specs.Number.{signed}
+use Rattle.sheet.specs.Magnitude.{Place, Fit, roundMag}
+use Rattle.sheet.specs.Number.{signed, Spelled}
 use Rattle.sheet.specs.Round.{away}
 use Rattle.sheet.specs.Range.{extent, InRange}
 
@@ -58,10 +59,21 @@ pub record Normalised (v last : ℕ) (x y : Found) : Type 0 where
   pub keeps : Keeps x y
   pub room : y .e ≤ x .e + 64 + last
 
--- digits below 2^33 as 32 of them: where there is one more, the place goes up
-pub record Carried (neg : Bool) (m e : ℕ) (r : Sheet) : Type 0 where
-  pub plain : m < 2 ^ 32 → r ≡ record { neg = neg; m = m; e = e }
-  pub carry : 2 ^ 32 ≤ m → r ≡ record { neg = neg; m = m - 2 ^ 31; e = e + 1 }
+-- suc v digits, or one more: then the place goes up
+pub record Carried (v : ℕ) (neg : Bool) (m e : ℕ) (r : Sheet) : Type 0 where
+  pub plain : m < 2 ^ suc v → r ≡ record { neg = neg; m = m; e = e }
+  pub carry : 2 ^ suc v ≤ m → r ≡ record { neg = neg; m = m - 2 ^ v; e = e + 1 }
+
+-- both have the digits of a spelling of one width, whichever it is
+pub record BothFit (am ae bm be : ℕ) : Type 0 where
+  pub v : ℕ
+  pub first : Fit v am ae
+  pub second : Fit v bm be
+
+pub record BothSpelled (a b : Sheet) : Type 0 where
+  pub v : ℕ
+  pub first : Spelled v a
+  pub second : Spelled v b
 
 -- r is the rounding of every quotient that has the place
 abbrev pub Rounds : Bool → Bool → ℕ → Bool → ℕ → ℕ → Sheet → Type 0
@@ -81,34 +93,48 @@ pub record OneWhere (b : Bool) (r : ℕ) : Type 0 where
   pub no : b ≡ false → r ≡ 0
 
 -- the addends of a sum, the greater first
-pub record Addends (a b : Sheet) : Type 0 where
-  pub first : InRange a
-  pub second : InRange b
+pub record Addends (v : ℕ) (a b : Sheet) : Type 0 where
+  pub first : InRange v a
+  pub second : InRange v b
   pub some : 0 < b .m
   pub order : extent b ≤ extent a
 
--- what a long division has found is num · 2^from / den
-pub record Dividing (num den from : ℕ) (x : Division) : Type 0 where
-  pub whole : (x .digits * den + x .rest) * 2 ^ x .place ≡ num * 2 ^ from
-  pub left : x .rest < den
+-- the number that a long division divides, whatever has been found of it
+abbrev pub dividend : ℕ → Division → ℕ
+dividend den x = (x .digits * den + x .rest) * 2 ^ x .place
 
 -- something is left to divide, and there is a place for a digit; before the first digit the rest may be any number
-pub record Divisible (den : ℕ) (x : Division) : Type 0 where
-  pub few : x .digits < 2 ^ 63
+pub record Begun (den : ℕ) (x : Division) : Type 0 where
   pub left : 0 < x .digits → x .rest < den
   pub divisor : (0 < den) × (den ≤ 2 ^ 63)
   pub some : 0 < x .digits + x .rest
   pub place : 0 < x .place
 
+-- and a word has room for a digit more
+pub record Divisible (den : ℕ) (x : Division) : Type 0 where
+  pub begun : Begun den x
+  pub few : x .digits < 2 ^ 63
+
 -- the same quotient, with a digit more or many
 pub record BroughtDown (den : ℕ) (x y : Division) : Type 0 where
-  pub same : (y .digits * den + y .rest) * 2 ^ y .place ≡ (x .digits * den + x .rest) * 2 ^ x .place
+  pub same : dividend den y ≡ dividend den x
   pub left : y .rest < den
   pub place : y .place ≤ x .place
   pub more : x .rest < den → y .place < x .place
 
--- with suc v digits, or no place left
-pub record Divided (v num den from : ℕ) (x : Division) : Type 0 where
-  pub found : Dividing num den from x
-  pub full : 0 < x .place → 2 ^ v ≤ x .digits
-  pub place : x .place ≤ from
+-- the same quotient, with suc v digits, or no place left
+pub record Divided (v den : ℕ) (x y : Division) : Type 0 where
+  pub same : dividend den y ≡ dividend den x
+  pub left : y .rest < den
+  pub full : 0 < y .place → 2 ^ v ≤ y .digits
+  pub place : y .place ≤ x .place
+
+-- the digits of num / den, and what is left over
+pub record Quotes (num den : ℕ) (r : Outcome) : Type 0 where
+  pub whole : r .digits * den + r .rest ≡ num
+  pub left : r .rest < den
+
+-- and no more of them than there are
+pub record Parts (n den : ℕ) (r : Outcome) : Type 0 where
+  pub quotes : Quotes n den r
+  pub few : r .digits ≤ n

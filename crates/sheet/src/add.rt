@@ -6,9 +6,10 @@ use crate::order::not_above;
 use crate::place::Found;
 use crate::place::cut;
 use crate::place::rounded;
+use crate::place::topped;
 ghost use mathlib.Core.Path.{_≡_};
 ghost use mathlib.Core.Bool.{not};
-ghost use Prim.Native.Nat.{_<_, _≤_};
+ghost use Prim.Native.Nat.{suc, _<_, _≤_};
 ghost use Rattle.exact.specs.Fraction.{_⊕_, _⊖_};
 ghost use Rattle.sheet.specs.Number.{value};
 ghost use Rattle.sheet.specs.Round.{round};
@@ -40,25 +41,25 @@ fn aligned(m: u64, e: u64, to: u64) -> Found
 }
 
 // Two numbers of one sign: the digits of the lower one at the place of the higher are added.
-fn added(up: bool, a: Sheet, b: Sheet) -> Sheet
-    requires { ⌜ Addends a b × (a .neg ≡ b .neg) ⌝ }
-    ensures { λ r. ⌜ r ≡ round up 32 (value a ⊕ value b) ⌝ }
+fn added(v: u64, up: bool, a: Sheet, b: Sheet) -> Sheet
+    requires { ⌜ Addends v a b × (a .neg ≡ b .neg) ⌝ }
+    ensures { λ r. ⌜ r ≡ round up (suc v) (value a ⊕ value b) ⌝ }
 {
     let am = a.m;
     let ae = a.e;
     let x = aligned(b.m, b.e, ae);
     let q = x.m;
-    rounded(up, a.neg, am + q, x.sticky, ae)
+    topped(v, up, a.neg, am + q, x.sticky, ae)
 }
 
 // Two numbers of different signs, at one place: nothing is cut.
-fn level(up: bool, a: Sheet, b: Sheet) -> Sheet
-    requires { ⌜ Addends a b × (b .neg ≡ not (a .neg)) × (a .e ≡ b .e) ⌝ }
-    ensures { λ r. ⌜ r ≡ round up 32 (value a ⊕ value b) ⌝ }
+fn level(v: u64, up: bool, a: Sheet, b: Sheet) -> Sheet
+    requires { ⌜ Addends v a b × (b .neg ≡ not (a .neg)) × (a .e ≡ b .e) ⌝ }
+    ensures { λ r. ⌜ r ≡ round up (suc v) (value a ⊕ value b) ⌝ }
 {
     let am = a.m;
     let bm = b.m;
-    rounded(up, a.neg, am - bm, false, a.e)
+    rounded(v, up, a.neg, am - bm, false, a.e)
 }
 
 // 1 for true, 0 for false.
@@ -70,37 +71,37 @@ fn one_where(b: bool) -> u64
 
 // Two numbers of different signs, at different places: the digits of the lower one, one place below those of the higher, are taken away;
 // where something was cut, one more is taken and the rest stays.
-fn taken(up: bool, a: Sheet, b: Sheet) -> Sheet
-    requires { ⌜ Addends a b × (b .neg ≡ not (a .neg)) × (b .e < a .e) ⌝ }
-    ensures { λ r. ⌜ r ≡ round up 32 (value a ⊕ value b) ⌝ }
+fn taken(v: u64, up: bool, a: Sheet, b: Sheet) -> Sheet
+    requires { ⌜ Addends v a b × (b .neg ≡ not (a .neg)) × (b .e < a .e) ⌝ }
+    ensures { λ r. ⌜ r ≡ round up (suc v) (value a ⊕ value b) ⌝ }
 {
     let am = a.m;
     let ae = a.e;
     let x = aligned(b.m, b.e, ae - 1);
     let q = x.m;
     let more = one_where(x.sticky);
-    rounded(up, a.neg, am * 2 - q - more, x.sticky, ae - 1)
+    topped(v, up, a.neg, am * 2 - q - more, x.sticky, ae - 1)
 }
 
 // The greater magnitude comes first.
-fn ordered(up: bool, a: Sheet, b: Sheet) -> Sheet
-    requires { ⌜ Addends a b ⌝ }
-    ensures { λ r. ⌜ r ≡ round up 32 (value a ⊕ value b) ⌝ }
+fn ordered(v: u64, up: bool, a: Sheet, b: Sheet) -> Sheet
+    requires { ⌜ Addends v a b ⌝ }
+    ensures { λ r. ⌜ r ≡ round up (suc v) (value a ⊕ value b) ⌝ }
 {
     if a.neg == b.neg {
-        return added(up, a, b);
+        return added(v, up, a, b);
     }
     let ae = a.e;
     let be = b.e;
     if ae == be {
-        return level(up, a, b);
+        return level(v, up, a, b);
     }
-    taken(up, a, b)
+    taken(v, up, a, b)
 }
 
-pub fn sum(up: bool, a: Sheet, b: Sheet) -> Sheet
-    requires { ⌜ InRange a × InRange b ⌝ }
-    ensures { λ r. ⌜ r ≡ round up 32 (value a ⊕ value b) ⌝ }
+pub fn sum(v: u64, up: bool, a: Sheet, b: Sheet) -> Sheet
+    requires { ⌜ InRange v a × InRange v b ⌝ }
+    ensures { λ r. ⌜ r ≡ round up (suc v) (value a ⊕ value b) ⌝ }
 {
     let am = a.m;
     let bm = b.m;
@@ -110,16 +111,15 @@ pub fn sum(up: bool, a: Sheet, b: Sheet) -> Sheet
     if bm == 0 {
         return a;
     }
-    if not_above(b.m, b.e, a.m, a.e) {
-        ordered(up, a, b)
-    } else {
-        ordered(up, b, a)
-    }
+    let fits = not_above(b.m, b.e, a.m, a.e);
+    let first = if fits { a } else { b };
+    let second = if fits { b } else { a };
+    ordered(v, up, first, second)
 }
 
-pub fn difference(up: bool, a: Sheet, b: Sheet) -> Sheet
-    requires { ⌜ InRange a × InRange b ⌝ }
-    ensures { λ r. ⌜ r ≡ round up 32 (value a ⊖ value b) ⌝ }
+pub fn difference(v: u64, up: bool, a: Sheet, b: Sheet) -> Sheet
+    requires { ⌜ InRange v a × InRange v b ⌝ }
+    ensures { λ r. ⌜ r ≡ round up (suc v) (value a ⊖ value b) ⌝ }
 {
-    sum(up, a, negated(b))
+    sum(v, up, a, negated(b))
 }

@@ -1,66 +1,19 @@
-// Given values: a fraction of two numbers by long division, many digits a turn, and a whole number. Assumes nothing.
+// Given values: a fraction of two numbers by long division, and a whole number. Assumes nothing.
 use crate::Sheet;
-use crate::place::lesser;
+use crate::division::Division;
+use crate::division::long_division;
 use crate::place::rounded;
 ghost use mathlib.Core.Path.{_≡_};
 ghost use mathlib.Core.Bool.{false};
-ghost use Prim.Native.Nat.{_^_, _<_, _≤_};
+ghost use Prim.Native.Nat.{suc, _^_, _<_, _≤_};
 ghost use Rattle.exact.specs.Fraction.{nat, parts};
 ghost use Rattle.sheet.specs.Round.{round};
-ghost use Rattle.sheet.specs.Steps.{Divisible, BroughtDown, Divided};
+ghost use Rattle.sheet.specs.Range.{Width};
 
-// A long division on its way: the digits found, what is left over, and the place.
-pub struct Division {
-    pub digits: u64,
-    pub rest: u64,
-    pub place: u64,
-}
-
-// More digits: as many as leave what is found and what is left over within a word, and no more than there are places.
-fn brought_down(x: Division, den: u64) -> Division
-    requires { ⌜ Divisible den x ⌝ }
-    ensures { λ r. ⌜ BroughtDown den x r ⌝ }
-{
-    let digits = x.digits;
-    let rest = x.rest;
-    let place = x.place;
-    let free = lesser(
-        u64::leading_zeros(digits) as u64,
-        u64::leading_zeros(rest) as u64,
-    );
-    let t = lesser(free, place);
-    let n = rest << t;
-    Division {
-        digits: (digits << t) + n / den,
-        rest: n % den,
-        place: place - t,
-    }
-}
-
-// Digits are brought down until there are 32, or no place is left below. All of num is the first rest.
-fn long_division(num: u64, den: u64, from: u64) -> Division
-    requires { ⌜ (0 < num) × (0 < den) × (den ≤ 2 ^ 63) × (0 < from) ⌝ }
-    ensures { λ r. ⌜ Divided 31 num den from r ⌝ }
-{
-    let mut x = Division {
-        digits: 0,
-        rest: num,
-        place: from,
-    };
-    while x.digits < 2147483648 {
-        let place = x.place;
-        if place == 0 {
-            return x;
-        }
-        x = brought_down(x, den);
-    }
-    x
-}
-
-// num / den with a sign.
-pub fn ratio(up: bool, neg: bool, num: u64, den: u64) -> Sheet
-    requires { ⌜ (0 < den) × (den ≤ 2 ^ 63) ⌝ }
-    ensures { λ r. ⌜ r ≡ round up 32 (parts neg num den) ⌝ }
+// num / den with a sign. All of num is the first rest.
+pub fn ratio(v: u64, up: bool, neg: bool, num: u64, den: u64) -> Sheet
+    requires { ⌜ Width v × (0 < den) × (den ≤ 2 ^ 63) ⌝ }
+    ensures { λ r. ⌜ r ≡ round up (suc v) (parts neg num den) ⌝ }
 {
     if num == 0 {
         return Sheet {
@@ -69,15 +22,20 @@ pub fn ratio(up: bool, neg: bool, num: u64, den: u64) -> Sheet
             e: 0,
         };
     }
-    let x = long_division(num, den, 262144);
+    let begun = Division {
+        digits: 0,
+        rest: num,
+        place: 262144,
+    };
+    let x = long_division(v, begun, den);
     let rest = x.rest;
-    rounded(up, neg, x.digits, rest != 0, x.place)
+    rounded(v, up, neg, x.digits, rest != 0, x.place)
 }
 
 // A whole number of at most 32 digits is exact, so that one direction serves for both.
-pub fn whole(n: u64) -> Sheet
-    requires { ⌜ n < 2 ^ 32 ⌝ }
-    ensures { λ r. ⌜ r ≡ round false 32 (nat n) ⌝ }
+pub fn whole(v: u64, n: u64) -> Sheet
+    requires { ⌜ Width v × (n < 2 ^ 32) ⌝ }
+    ensures { λ r. ⌜ r ≡ round false (suc v) (nat n) ⌝ }
 {
-    rounded(false, false, n, false, 262144)
+    rounded(v, false, false, n, false, 262144)
 }

@@ -5,12 +5,12 @@ ghost use mathlib.Core.Path.{_≡_};
 ghost use Prim.Native.Nat.{_*_, _^_};
 ghost use lib.Dec.{leb};
 ghost use Rattle.exact.specs.Fraction.{leq};
-ghost use Rattle.sheet.specs.Magnitude.{Fit};
-ghost use Rattle.sheet.specs.Number.{value, negateSheet, Spelled};
+ghost use Rattle.sheet.specs.Number.{value, negateSheet};
+ghost use Rattle.sheet.specs.Steps.{BothFit, BothSpelled};
 
 // Whether one magnitude is not above another: by place, then by digits.
 pub fn not_above(am: u64, ae: u64, bm: u64, be: u64) -> bool
-    requires { ⌜ Fit 31 am ae × Fit 31 bm be ⌝ }
+    requires { ⌜ BothFit am ae bm be ⌝ }
     ensures { λ r. ⌜ r ≡ leb (am * 2 ^ ae) (bm * 2 ^ be) ⌝ }
 {
     if ae < be {
@@ -23,7 +23,7 @@ pub fn not_above(am: u64, ae: u64, bm: u64, be: u64) -> bool
 }
 
 pub fn at_most(a: Sheet, b: Sheet) -> bool
-    requires { ⌜ Spelled 31 a × Spelled 31 b ⌝ }
+    requires { ⌜ BothSpelled a b ⌝ }
     ensures { λ r. ⌜ r ≡ leq (value a) (value b) ⌝ }
 {
     if a.neg {

@@ -1,12 +1,13 @@
-// The rounding of digits at a place, with word of what was cut below them, to 32 bits. The count of leading zeros says how far they move,
-// and they move at once. Assumes nothing.
+// The rounding of digits at a place, with word of what was cut below them, to v + 1 bits. The count of leading zeros says how far they
+// move, and they move at once. Assumes nothing.
 use crate::Sheet;
 ghost use mathlib.Core.Path.{_≡_};
 ghost use mathlib.Core.Bool.{true};
-ghost use Prim.Native.Nat.{_+_, _*_, _^_, _<_};
+ghost use Prim.Native.Nat.{suc, _+_, _^_, _≤_, _<_};
 ghost use Rattle.sheet.specs.Magnitude.{finish};
-ghost use Rattle.sheet.specs.Number.{signed};
+ghost use Rattle.sheet.specs.Number.{signed, Digits};
 ghost use Rattle.sheet.specs.Round.{away};
+ghost use Rattle.sheet.specs.Range.{Width};
 ghost use Rattle.sheet.specs.Steps.{Ready, Movable, Moved, CutBy, Loose, Normalised, Lesser, Carried, Rounds};
 
 // Digits so far, whether anything was cut below them, and their place.
@@ -77,25 +78,31 @@ pub fn normalised(x: Found, v: u64, last: u64) -> Found
     moved(x, s, u)
 }
 
-// Digits that may have gone past 32: past the greatest of 32 comes the least, one place up.
-pub fn carried(neg: bool, m: u64, e: u64) -> Sheet
-    requires { ⌜ (m < 2 ^ 33) × (e < 2 ^ 63) ⌝ }
-    ensures { λ r. ⌜ Carried neg m e r ⌝ }
+// Digits that may have gone past v + 1: past the greatest of them comes the least, one place up.
+pub fn carried(v: u64, neg: bool, m: u64, e: u64) -> Sheet
+    requires { ⌜ Width v × (m < 2 ^ suc (suc v)) × (e < 2 ^ 63) ⌝ }
+    ensures { λ r. ⌜ Carried v neg m e r ⌝ }
 {
-    let c = m / 4294967296;
+    let c = m >> (v + 1);
     Sheet {
         neg,
-        m: m - c * 2147483648,
+        m: m - (c << v),
         e: e + c,
     }
 }
 
 // The next sheet number in magnitude.
-fn next(neg: bool, m: u64, e: u64) -> Sheet
-    requires { ⌜ (m < 2 ^ 32) × (e < 2 ^ 63) ⌝ }
-    ensures { λ r. ⌜ r ≡ signed neg (finish true true 32 (record { m = m; e = e })) ⌝ }
+fn next(v: u64, neg: bool, m: u64, e: u64) -> Sheet
+    requires { ⌜ Width v × (m < 2 ^ suc v) × (e < 2 ^ 63) ⌝ }
+    ensures { λ r. ⌜ r ≡ signed neg (finish true true (suc v) (record { m = m; e = e })) ⌝ }
 {
-    carried(neg, m + 1, e)
+    let n = m + 1;
+    let d = n >> (v + 1);
+    Sheet {
+        neg,
+        m: n >> d,
+        e: e + d,
+    }
 }
 
 // A magnitude with its sign; zero has none.
@@ -110,9 +117,9 @@ pub fn signed(neg: bool, m: u64, e: u64) -> Sheet
 }
 
 // Digits of the spelling are rounded: one more where something was cut and the direction goes away from zero.
-fn finished(up: bool, neg: bool, x: Found) -> Sheet
-    requires { ⌜ (x .m < 2 ^ 32) × (x .e < 2 ^ 63) ⌝ }
-    ensures { λ r. ⌜ r ≡ signed neg (finish (away up neg) (x .sticky) 32 (record { m = x .m; e = x .e })) ⌝ }
+fn finished(v: u64, up: bool, neg: bool, x: Found) -> Sheet
+    requires { ⌜ Width v × (x .m < 2 ^ suc v) × (x .e < 2 ^ 63) ⌝ }
+    ensures { λ r. ⌜ r ≡ signed neg (finish (away up neg) (x .sticky) (suc v) (record { m = x .m; e = x .e })) ⌝ }
 {
     let m = x.m;
     let e = x.e;
@@ -121,21 +128,56 @@ fn finished(up: bool, neg: bool, x: Found) -> Sheet
             if neg {
                 return signed(neg, m, e);
             }
-            return next(neg, m, e);
+            return next(v, neg, m, e);
         }
         if neg {
-            return next(neg, m, e);
+            return next(v, neg, m, e);
         }
     }
     signed(neg, m, e)
 }
 
-// Digits at a place, with word of what was cut below, rounded to 32 bits.
-pub fn rounded(up: bool, neg: bool, m: u64, sticky: bool, e: u64) -> Sheet
-    requires { ⌜ Ready 31 (record { m = m; sticky = sticky; e = e }) ⌝ }
-    ensures { λ r. ⌜ Rounds up neg m sticky e 32 r ⌝ }
+// The same where no digit is missing, so that there is no zero to look for.
+fn ended(v: u64, up: bool, neg: bool, x: Found) -> Sheet
+    requires { ⌜ Width v × Digits v (x .m) × (x .e < 2 ^ 63) ⌝ }
+    ensures { λ r. ⌜ r ≡ signed neg (finish (away up neg) (x .sticky) (suc v) (record { m = x .m; e = x .e })) ⌝ }
+{
+    let m = x.m;
+    let e = x.e;
+    if up != neg {
+        if x.sticky {
+            return next(v, neg, m, e);
+        }
+    }
+    Sheet { neg, m, e }
+}
+
+// Digits at a place, with word of what was cut below, rounded to v + 1 bits.
+pub fn rounded(v: u64, up: bool, neg: bool, m: u64, sticky: bool, e: u64) -> Sheet
+    requires { ⌜ Width v × Ready v (record { m = m; sticky = sticky; e = e }) ⌝ }
+    ensures { λ r. ⌜ Rounds up neg m sticky e (suc v) r ⌝ }
 {
     let x = Found { m, sticky, e };
-    let y = normalised(x, 31, 0);
-    finished(up, neg, y)
+    let y = normalised(x, v, 0);
+    finished(v, up, neg, y)
+}
+
+// Some digits, far above the last place: they can go to the top of a word.
+pub fn topped(v: u64, up: bool, neg: bool, m: u64, sticky: bool, e: u64) -> Sheet
+    requires { ⌜ Width v × Ready v (record { m = m; sticky = sticky; e = e }) × (0 < m) × (64 ≤ e) ⌝ }
+    ensures { λ r. ⌜ Rounds up neg m sticky e (suc v) r ⌝ }
+{
+    let x = Found { m, sticky, e };
+    let y = moved(x, u64::leading_zeros(m) as u64, 63 - v);
+    ended(v, up, neg, y)
+}
+
+// v + 1 digits or one more, as products and quotients have them: at most one is cut.
+pub fn trimmed(v: u64, up: bool, neg: bool, m: u64, sticky: bool, e: u64) -> Sheet
+    requires { ⌜ Width v × (2 ^ v ≤ m) × (m < 2 ^ suc (suc v)) × (e ≤ 2 ^ 62) ⌝ }
+    ensures { λ r. ⌜ Rounds up neg m sticky e (suc v) r ⌝ }
+{
+    let x = Found { m, sticky, e };
+    let y = cut(x, m >> (v + 1));
+    ended(v, up, neg, y)
 }

@@ -1,8 +1,9 @@
 -- Demand 3. First half: what is accepted holds by the equation itself, at every level from 256. Second half: what is good at some one such
--- level, by more than the width of its brackets, is accepted, whoever proposed it. Both over the count of bits suc v, from 8. Assumes nothing.
+-- level, by more than the width of its brackets, is accepted, whoever proposed it. Both at either width w. Assumes nothing.
 use Prim.Native.Nat.{ℕ, suc, _≤_}
 use mathlib.Core.Path.{_≡_, refl}
 use mathlib.Core.List.{List}
+use native.Mathlib.Omega.{arith}
 use lib.Ieee.{Float}
 use Rattle.exact.specs.Fraction.Order.{≺→≼, ≺-trans}
 use Rattle.doubles.specs.Double.{exactOf}
@@ -14,16 +15,17 @@ use Rattle.verdict.proofs.Order.{accepted, all-behind}
 use Rattle.verdict.proofs.Tables.{table-parts}
 use Rattle.verdict.proofs.Tests.{holds, temperature-in, above-triple-point, density-in, under-ceiling, gap-within, gap-beyond, pushes-above, pushes-beyond}
 use Rattle.verdict.proofs.SoundPairs.{sound-pair}
+use Rattle.verdict.proofs.EitherWidth.{at-width}
+use Rattle.verdict.proofs.Demand1.{density-0, pair-0}
 
--- ---- the pair
+-- ---- the pair, at suc v bits
 module _ (v : ℕ) (wide : 7 ≤ v) (table : List ℕ) (t liquid vapour pressureTolerance gibbsTolerance : Float) where
-  -- what every level says of an accepted pair
-  pub accepted-pair : number (pairAnswer (suc v) table t liquid vapour pressureTolerance gibbsTolerance) ≡ 0 → (N : ℕ) → 256 ≤ N
+  accepted-at : number (pairAnswer (suc v) table t liquid vapour pressureTolerance gibbsTolerance) ≡ 0 → (N : ℕ) → 256 ≤ N
       → Balanced N table (exactOf t) (exactOf liquid) (exactOf vapour) (exactOf pressureTolerance) (exactOf gibbsTolerance)
   unfolding pairAnswer
-  accepted-pair e N high =
+  accepted-at e N high =
       let steps = pairSteps (suc v) table t liquid vapour pressureTolerance gibbsTolerance in
-      let parts = all-behind 7 steps .0 (accepted number 0 steps _ tt refl .0 e) in
+      let parts = all-behind 8 steps .0 (accepted number 0 steps _ tt refl .0 e) in
       let pair = sound-pair (suc v) table t liquid vapour pressureTolerance gibbsTolerance .0 (parts .0) in
       let T = temperature-in t (above-triple-point t (pair .temperature)) in
       let l = density-in liquid (holds (pair .liquid-density)) in
@@ -39,18 +41,17 @@ module _ (v : ℕ) (wide : 7 ≤ v) (table : List ℕ) (t liquid vapour pressure
         vapour-pressure = pushes-above _ (covers-pressure v N wide high table T g) (push .0);
       }
 
-  -- some level says enough of a pair for it to be accepted
-  pub good-pair : SoundPair (suc v) table t liquid vapour pressureTolerance gibbsTolerance → (N : ℕ) → 256 ≤ N
+  good-at : SoundPair (suc v) table t liquid vapour pressureTolerance gibbsTolerance → (N : ℕ) → 256 ≤ N
       → BalancedBeyond (suc v) N table (exactOf t) (exactOf liquid) (exactOf vapour) (exactOf pressureTolerance) (exactOf gibbsTolerance)
       → number (pairAnswer (suc v) table t liquid vapour pressureTolerance gibbsTolerance) ≡ 0
   unfolding pairAnswer
-  good-pair sound N high good =
+  good-at sound N high good =
       let steps = pairSteps (suc v) table t liquid vapour pressureTolerance gibbsTolerance in
       let T = temperature-in t (above-triple-point t (sound .temperature)) in
       let l = density-in liquid (holds (sound .liquid-density)) in
       let g = density-in vapour (holds (sound .vapour-density)) in
       let apart = ≺→≼ (≺-trans (sound .vapour-side) (sound .liquid-side)) in
-      let passed = all-behind 7 steps .1 (
+      let passed = all-behind 8 steps .1 (
         sound-pair (suc v) table t liquid vapour pressureTolerance gibbsTolerance .1 sound,
         (
           pushes-beyond _ (covers-pressure v N wide high table T g) (good .vapour-pressure),
@@ -68,48 +69,51 @@ module _ (v : ℕ) (wide : 7 ≤ v) (table : List ℕ) (t liquid vapour pressure
       ) in
       accepted number 0 steps _ tt refl .1 passed
 
--- ---- the density for a given pressure
+-- ---- the density for a given pressure, at suc v bits
 module _ (v : ℕ) (wide : 7 ≤ v) (table : List ℕ) (t rho target tolerance : Float) where
-  pub accepted-density : number (densityAnswer (suc v) table t rho target tolerance) ≡ 0 → (N : ℕ) → 256 ≤ N
+  density-accepted-at : number (densityAnswer (suc v) table t rho target tolerance) ≡ 0 → (N : ℕ) → 256 ≤ N
       → OnTarget N table (exactOf t) (exactOf rho) (exactOf target) (exactOf tolerance)
   unfolding densityAnswer
-  accepted-density e N high =
+  density-accepted-at e N high =
       let steps = accepted number 0 (densitySteps (suc v) table t rho target tolerance) _ tt refl .0 e in
-      let T = temperature-in t (holds (steps .1 .1 .0)) in
-      let d = density-in rho (holds (steps .1 .1 .1 .0)) in
-      let gaps = steps .1 .1 .1 .1 .1 .1 .1 in
+      let T = temperature-in t (holds (steps .1 .1 .1 .0)) in
+      let d = density-in rho (holds (steps .1 .1 .1 .1 .0)) in
+      let gaps = steps .1 .1 .1 .1 .1 .1 .1 .1 in
       record {
         near = gap-within _ tolerance (covers-targetGap v N wide high table T d (exactOf target)) (gaps .0);
         pushes = pushes-above _ (covers-stiffness v N wide high table T d) (gaps .1 .0);
       }
 
-  pub good-density : SoundDensity (suc v) table t rho target tolerance → (N : ℕ) → 256 ≤ N
+  density-good-at : SoundDensity (suc v) table t rho target tolerance → (N : ℕ) → 256 ≤ N
       → OnTargetBeyond (suc v) N table (exactOf t) (exactOf rho) (exactOf target) (exactOf tolerance)
       → number (densityAnswer (suc v) table t rho target tolerance) ≡ 0
   unfolding densityAnswer
-  good-density sound N high good =
+  density-good-at sound N high good =
       let rows = table-parts table (sound .table-sound) in
       let T = temperature-in t (holds (sound .temperature)) in
       let d = density-in rho (holds (sound .density)) in
       accepted number 0 (densitySteps (suc v) table t rho target tolerance) _ tt refl .1 (
-        rows .0,
+        sound .width-sound,
         (
-          rows .1,
+          rows .0,
           (
-            sound .temperature,
+            rows .1,
             (
-              sound .density,
+              sound .temperature,
               (
-                sound .target-range,
+                sound .density,
                 (
-                  sound .tolerance-range,
+                  sound .target-range,
                   (
-                    under-ceiling _ .1 (sound .ceiling),
+                    sound .tolerance-range,
                     (
-                      gap-beyond _ tolerance (covers-targetGap v N wide high table T d (exactOf target)) (good .near),
+                      under-ceiling _ .1 (sound .ceiling),
                       (
-                        pushes-beyond _ (covers-stiffness v N wide high table T d) (good .pushes),
-                        tt,
+                        gap-beyond _ tolerance (covers-targetGap v N wide high table T d (exactOf target)) (good .near),
+                        (
+                          pushes-beyond _ (covers-stiffness v N wide high table T d) (good .pushes),
+                          tt,
+                        ),
                       ),
                     ),
                   ),
@@ -119,3 +123,52 @@ module _ (v : ℕ) (wide : 7 ≤ v) (table : List ℕ) (t rho target tolerance :
           ),
         ),
       )
+
+-- ---- at the width
+module _ (w : ℕ) (table : List ℕ) (t liquid vapour pressureTolerance gibbsTolerance : Float) where
+  -- what every level says of an accepted pair
+  pub accepted-pair : number (pairAnswer w table t liquid vapour pressureTolerance gibbsTolerance) ≡ 0 → (N : ℕ) → 256 ≤ N
+      → Balanced N table (exactOf t) (exactOf liquid) (exactOf vapour) (exactOf pressureTolerance) (exactOf gibbsTolerance)
+  accepted-pair e =
+      at-width w
+      (λ (n : ℕ).
+      number (pairAnswer n table t liquid vapour pressureTolerance gibbsTolerance) ≡ 0 → (N : ℕ) → 256 ≤ N
+      → Balanced N table (exactOf t) (exactOf liquid) (exactOf vapour) (exactOf pressureTolerance) (exactOf gibbsTolerance))
+      (λ v k. accepted-at v (omega (arith, k .low)) table t liquid vapour pressureTolerance gibbsTolerance)
+      (pair-0 w table t liquid vapour pressureTolerance gibbsTolerance .0 e .0) e
+
+  -- some level says enough of a pair for it to be accepted
+  pub good-pair : SoundPair w table t liquid vapour pressureTolerance gibbsTolerance → (N : ℕ) → 256 ≤ N
+      → BalancedBeyond w N table (exactOf t) (exactOf liquid) (exactOf vapour) (exactOf pressureTolerance) (exactOf gibbsTolerance)
+      → number (pairAnswer w table t liquid vapour pressureTolerance gibbsTolerance) ≡ 0
+  good-pair sound =
+      at-width w
+      (λ (n : ℕ).
+      SoundPair n table t liquid vapour pressureTolerance gibbsTolerance → (N : ℕ) → 256 ≤ N
+      → BalancedBeyond n N table (exactOf t) (exactOf liquid) (exactOf vapour) (exactOf pressureTolerance) (exactOf gibbsTolerance)
+      → number (pairAnswer n table t liquid vapour pressureTolerance gibbsTolerance) ≡ 0)
+      (λ v k. good-at v (omega (arith, k .low)) table t liquid vapour pressureTolerance gibbsTolerance)
+      (sound .width-sound) sound
+
+module _ (w : ℕ) (table : List ℕ) (t rho target tolerance : Float) where
+  pub accepted-density : number (densityAnswer w table t rho target tolerance) ≡ 0 → (N : ℕ) → 256 ≤ N
+      → OnTarget N table (exactOf t) (exactOf rho) (exactOf target) (exactOf tolerance)
+  accepted-density e =
+      at-width w
+      (λ (n : ℕ).
+      number (densityAnswer n table t rho target tolerance) ≡ 0 → (N : ℕ) → 256 ≤ N
+      → OnTarget N table (exactOf t) (exactOf rho) (exactOf target) (exactOf tolerance))
+      (λ v k. density-accepted-at v (omega (arith, k .low)) table t rho target tolerance)
+      (density-0 w table t rho target tolerance .0 e .0) e
+
+  pub good-density : SoundDensity w table t rho target tolerance → (N : ℕ) → 256 ≤ N
+      → OnTargetBeyond w N table (exactOf t) (exactOf rho) (exactOf target) (exactOf tolerance)
+      → number (densityAnswer w table t rho target tolerance) ≡ 0
+  good-density sound =
+      at-width w
+      (λ (n : ℕ).
+      SoundDensity n table t rho target tolerance → (N : ℕ) → 256 ≤ N
+      → OnTargetBeyond n N table (exactOf t) (exactOf rho) (exactOf target) (exactOf tolerance)
+      → number (densityAnswer n table t rho target tolerance) ≡ 0)
+      (λ v k. density-good-at v (omega (arith, k .low)) table t rho target tolerance)
+      (sound .width-sound) sound

@@ -1,4 +1,5 @@
--- The pair check's steps at a glance, in the order of document 01's numbers, with 21 of document 02, f, between 8 and 9. Assumes nothing.
+-- The pair check's steps at a glance, in the order of document 01's numbers, with 19 of document 02, d, first of all and 21 of document 02,
+-- f, between 8 and 9. Assumes nothing.
 use Prim.Native.Nat.{ℕ}
 use mathlib.Core.Path.{_≡_, refl}
 use mathlib.Core.Bool.{_&&_}
@@ -10,13 +11,14 @@ use Rattle.doubles.specs.Double.{exactOf}
 use Rattle.doubles.specs.Range.{acceptedPairTemperature, acceptedDensity, acceptedTolerance}
 use Rattle.term.specs.Sound.{soundLength, firstBroken}
 use Rattle.equation.specs.Rules.{pressure, stiffness, gibbsGap, pressureGap}
-use Rattle.verdict.specs.declared.Refusal.the-variants.{TableLength, BrokenTerm, Temperature, Density, Tolerance, Sides, Ceiling}
+use Rattle.verdict.specs.declared.Refusal.the-variants.{Width, TableLength, BrokenTerm, Temperature, Density, Tolerance, Sides, Ceiling}
 use Rattle.verdict.specs.declared.Answer.the-variants.{Refused, VapourPressure, PressureGap, GibbsGap, Stiffness}
-use Rattle.verdict.specs.Rules.{pairSteps, onSides, underCeiling, gapPasses, pushesBack, handedOut}
+use Rattle.verdict.specs.Rules.{pairSteps, soundWidth, onSides, underCeiling, gapPasses, pushesBack, handedOut}
 
 pub pair-checks : (w : ℕ) (table : List ℕ) (t liquid vapour pressureTolerance gibbsTolerance : Float)
     → pairSteps w table t liquid vapour pressureTolerance gibbsTolerance
-    ≡ record { passes = soundLength (length table); otherwise = Refused TableLength }
+    ≡ record { passes = soundWidth w; otherwise = Refused Width }
+    ∷ record { passes = soundLength (length table); otherwise = Refused TableLength }
     ∷ record { passes = eqb (firstBroken table) 0; otherwise = Refused (BrokenTerm (firstBroken table)) }
     ∷ record { passes = acceptedPairTemperature t; otherwise = Refused Temperature }
     ∷ record { passes = acceptedDensity liquid && acceptedDensity vapour; otherwise = Refused Density }

@@ -1,7 +1,8 @@
 -- Ends handed out are exactly their values, so a test on the f64s is the test on the values. Assumes nothing.
 use mathlib.Core.Path.{_≡_, ap, ap₂, _∙_}
 use mathlib.Core.Bool.{not, _&&_}
-use lib.Dec.{lit≤}
+use Prim.Native.Nat.{ℕ}
+use native.Mathlib.Omega.{arith}
 use lib.Ieee.{Float, isNan}
 use Rattle.exact.specs.Fraction.{Fraction, nat, negate, leq, _≈_}
 use Rattle.exact.specs.Fraction.Order.{≈-sym, ≈-≼-trans, ≼-≈-trans}
@@ -33,13 +34,13 @@ unfolding handedOut
 zero-upper b z = doubleOf-zero z
 
 -- a bracket in range whose ends are exactly f64s
-pub handy : (b : Bracket) → Held b → Both Doubled b → Handy b
-handy b h d =
+pub handy : {v : ℕ} (b : Bracket) → Held v b → Both Doubled b → Handy b
+handy {v} b h d =
     record {
       lower = d .lo;
-      lower-few = normal-few 31 (b .lo) (h .lo .normal) (lit≤ tt);
+      lower-few = normal-few v (b .lo) (h .lo .within .normal) (omega (arith, h .lo .width .high));
       upper = d .hi;
-      upper-few = normal-few 31 (b .hi) (h .hi .normal) (lit≤ tt);
+      upper-few = normal-few v (b .hi) (h .hi .within .normal) (omega (arith, h .hi .width .high));
     }
 
 -- finite f64s are no NaN

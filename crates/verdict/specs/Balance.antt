@@ -14,6 +14,7 @@ use Rattle.term.specs.Sound.{soundTable}
 use Rattle.bracket.specs.declared.Bracket.{Bracket}
 use Rattle.verdict.specs.declared.Ends.{Ends}
 use Rattle.verdict.specs.Reading.{plainZero}
+use Rattle.verdict.specs.Rules.{soundWidth}
 use Rattle.equation.specs.Rules.{pressure, stiffness, gibbsGap, targetGap, pressureGap}
 use Rattle.equation.specs.Itself.{pressureAt, stiffnessAt, gibbsGapAt}
 
@@ -50,8 +51,9 @@ pub record BalancedBeyond (w N : ℕ) (table : List ℕ) (T liquid vapour pressu
   pub vapour-pushes : bracketWidth (stiffness w table T vapour) ≺ stiffnessAt N table T vapour
   pub vapour-pressure : bracketWidth (pressure w table T vapour) ≺ pressureAt N table T vapour
 
--- a sound table, inputs in the pair check's ranges, each density on its own side, and no upper end of pressure above the ceiling
+-- a width, a sound table, inputs in the pair check's ranges, each density on its own side, and no upper end of pressure above the ceiling
 pub record SoundPair (w : ℕ) (table : List ℕ) (t liquid vapour pressureTolerance gibbsTolerance : Float) : Type 0 where
+  pub width-sound : soundWidth w ≡ true
   pub table-sound : soundTable table ≡ true
   pub temperature : acceptedPairTemperature t ≡ true
   pub liquid-density : acceptedDensity liquid ≡ true
@@ -73,6 +75,7 @@ pub record OnTargetBeyond (w N : ℕ) (table : List ℕ) (T rho target tolerance
   pub pushes : bracketWidth (stiffness w table T rho) ≺ stiffnessAt N table T rho
 
 pub record SoundDensity (w : ℕ) (table : List ℕ) (t rho target tolerance : Float) : Type 0 where
+  pub width-sound : soundWidth w ≡ true
   pub table-sound : soundTable table ≡ true
   pub temperature : acceptedTemperature t ≡ true
   pub density : acceptedDensity rho ≡ true

@@ -6,7 +6,7 @@ use mathlib.Core.List.{List}
 use lib.Dec.{T}
 use lib.Ieee.{Float}
 use lib.Ieee.Scale.{finite}
-use Rattle.sheet.specs.Range.{Doubled}
+use Rattle.sheet.specs.Range.{Width, Doubled}
 use Rattle.exact.specs.Fraction.{_≼_}
 use Rattle.doubles.specs.Double.{exactOf}
 use Rattle.doubles.specs.Range.{acceptedTemperature, acceptedDensity}
@@ -25,14 +25,16 @@ pub record EndsFinite (lower upper : Float) : Type 0 where
   pub lower-finite : T (finite lower)
   pub upper-finite : T (finite upper)
 
--- a sound table, and a state in range
-pub record Workable (table : List ℕ) (t rho : Float) : Type 0 where
+-- a width, a sound table, and a state in range
+pub record Workable (v : ℕ) (table : List ℕ) (t rho : Float) : Type 0 where
+  pub width : Width v
   pub table-sound : soundTable table ≡ true
   pub temperature : T (acceptedTemperature t)
   pub density : T (acceptedDensity rho)
 
 -- the same for a pair, with the densities on their own sides
-pub record WorkablePair (table : List ℕ) (t liquid vapour pressureTolerance gibbsTolerance : Float) : Type 0 where
+pub record WorkablePair (v : ℕ) (table : List ℕ) (t liquid vapour pressureTolerance gibbsTolerance : Float) : Type 0 where
+  pub width : Width v
   pub table-sound : soundTable table ≡ true
   pub temperature : T (acceptedTemperature t)
   pub liquid-density : T (acceptedDensity liquid)

@@ -1,7 +1,8 @@
 -- The answers by document 01's table of numbers ("Verdicts"): the checks of each call, in the order of the numbers, with what each hands out
--- where it fails; the pair check's 21 is document 02's (f). w is the count of bits of the sheet numbers. Assumes nothing.
+-- where it fails; 19, first of all, and the pair check's 21 are document 02's (d, f). w is the width, the count of bits of the sheet numbers.
+-- Assumes nothing.
 use Prim.Native.Nat.{ℕ}
-use mathlib.Core.Bool.{Bool, not, _&&_}
+use mathlib.Core.Bool.{Bool, not, _&&_, _||_}
 use mathlib.Core.List.{List, [], _∷_}
 use lib.ListN.{length}
 use lib.Dec.{eqb}
@@ -16,7 +17,7 @@ use Rattle.bracket.specs.declared.Bracket.{Bracket}
 use Rattle.equation.specs.Rules.{pressure, stiffness, gibbsGap, targetGap, pressureGap}
 use Rattle.verdict.specs.declared.Ends.{Ends}
 use Rattle.verdict.specs.declared.Refusal.{Refusal}
-use Rattle.verdict.specs.declared.Refusal.the-variants.{TableLength, BrokenTerm, Temperature, Density, Target, Tolerance, Sides, Ceiling}
+use Rattle.verdict.specs.declared.Refusal.the-variants.{Width, TableLength, BrokenTerm, Temperature, Density, Target, Tolerance, Sides, Ceiling}
 use Rattle.verdict.specs.declared.SheetAnswer.{SheetAnswer}
 use Rattle.verdict.specs.declared.SheetAnswer.the-variants as sheet
 use Rattle.verdict.specs.declared.Answer.{Answer}
@@ -43,14 +44,22 @@ pushesBack b = not (leq (value (b .lo)) (nat 0))
 unfoldable pub onSides : Float → Float → Bool
 onSides liquid vapour = not (leq (exactOf liquid) (nat 322)) && not (leq (nat 322) (exactOf vapour))
 
--- 1 and 2, before the other checks
+-- a width is 32 or 53
+unfoldable pub soundWidth : ℕ → Bool
+soundWidth w = eqb w 32 || eqb w 53
+
+-- 19, before all other checks
+abbrev pub widthStep : {A : Type 0} → (Refusal → A) → ℕ → List (Step A) → List (Step A)
+widthStep refused w rest = record { passes = soundWidth w; otherwise = refused Width } ∷ rest
+
+-- 1 and 2, before those on the state
 abbrev pub tableSteps : {A : Type 0} → (Refusal → A) → List ℕ → List (Step A) → List (Step A)
 tableSteps refused table rest =
     record { passes = soundLength (length table); otherwise = refused TableLength }
     ∷ record { passes = eqb (firstBroken table) 0; otherwise = refused (BrokenTerm (firstBroken table)) }
     ∷ rest
 
--- ---- the state sheet: 1 to 4 and 8
+-- ---- the state sheet: 19, 1 to 4 and 8
 
 -- 8, on the bracket of pressure
 abbrev pub stateWorked : Bracket → List (Step SheetAnswer)
@@ -64,7 +73,7 @@ stateInputs w table t rho =
     ∷ stateWorked (pressure w table (exactOf t) (exactOf rho))
 
 abbrev pub stateSteps : ℕ → List ℕ → (t rho : Float) → List (Step SheetAnswer)
-stateSteps w table t rho = tableSteps sheet.Refused table (stateInputs w table t rho)
+stateSteps w table t rho = widthStep sheet.Refused w (tableSteps sheet.Refused table (stateInputs w table t rho))
 
 abbrev pub stateAccepted : ℕ → List ℕ → (t rho : Float) → SheetAnswer
 stateAccepted w table t rho =
@@ -94,7 +103,7 @@ densityInputs w table t rho target tolerance =
     (stiffness w table (exactOf t) (exactOf rho)) tolerance
 
 abbrev pub densitySteps : ℕ → List ℕ → (t rho target tolerance : Float) → List (Step Answer)
-densitySteps w table t rho target tolerance = tableSteps Refused table (densityInputs w table t rho target tolerance)
+densitySteps w table t rho target tolerance = widthStep Refused w (tableSteps Refused table (densityInputs w table t rho target tolerance))
 
 unfoldable pub densityAnswer : ℕ → List ℕ → (t rho target tolerance : Float) → Answer
 densityAnswer w table t rho target tolerance =
@@ -138,7 +147,7 @@ pairInputs w table t liquid vapour pressureTolerance gibbsTolerance =
 
 abbrev pub pairSteps : ℕ → List ℕ → (t liquid vapour pressureTolerance gibbsTolerance : Float) → List (Step Answer)
 pairSteps w table t liquid vapour pressureTolerance gibbsTolerance =
-    tableSteps Refused table (pairInputs w table t liquid vapour pressureTolerance gibbsTolerance)
+    widthStep Refused w (tableSteps Refused table (pairInputs w table t liquid vapour pressureTolerance gibbsTolerance))
 
 unfoldable pub pairAnswer : ℕ → List ℕ → (t liquid vapour pressureTolerance gibbsTolerance : Float) → Answer
 pairAnswer w table t liquid vapour pressureTolerance gibbsTolerance =

@@ -7,10 +7,13 @@ use crate::handed::handed_out;
 use crate::handed::pushes_back;
 use crate::handed::under_ceiling;
 use crate::phases::phase_of;
+use crate::widths::sound_width;
 use bracket::Bracket;
 use term::Table;
 ghost use mathlib.Core.Path.{_≡_};
 ghost use mathlib.Core.Bool.{true};
+ghost use Prim.Native.Nat.{suc};
+ghost use Rattle.sheet.specs.Range.{Width};
 ghost use lib.Dec.{T};
 ghost use lib.Ieee.Scale.{finite};
 ghost use Rattle.doubles.specs.Double.{exactOf};
@@ -42,9 +45,9 @@ fn worked(p: Bracket, gap: Bracket, s: Bracket, tolerance: f64) -> Answer
 }
 
 // 3 to 6, and what follows.
-fn screened(table: &[u8], t: f64, rho: f64, target: f64, tolerance: f64) -> Answer
-    requires { ⌜ soundTable (now table) ≡ true ⌝ }
-    ensures { λ r. ⌜ r ≡ firstFailing (densityInputs 32 (now (table .entry)) t rho target tolerance) (Accepted (handedOut (pressure 32 (now (table .entry)) (exactOf t) (exactOf rho)))) ⌝ }
+fn screened(v: u64, table: &[u8], t: f64, rho: f64, target: f64, tolerance: f64) -> Answer
+    requires { ⌜ Width v × (soundTable (now table) ≡ true) ⌝ }
+    ensures { λ r. ⌜ r ≡ firstFailing (densityInputs (suc v) (now (table .entry)) t rho target tolerance) (Accepted (handedOut (pressure (suc v) (now (table .entry)) (exactOf t) (exactOf rho)))) ⌝ }
     ensures { λ r. ⌜ AnswerNumbers r ⌝ }
 {
     if !doubles::range::accepts_temperature(t) {
@@ -59,21 +62,24 @@ fn screened(table: &[u8], t: f64, rho: f64, target: f64, tolerance: f64) -> Answ
     if !doubles::range::accepts_tolerance(tolerance) {
         return Answer::Refused(Refusal::Tolerance);
     }
-    let a = phase_of(table, t, rho);
-    let gap = equation::target_gap_of(a.pressure, target);
+    let a = phase_of(v, table, t, rho);
+    let gap = equation::target_gap_of(v, a.pressure, target);
     worked(a.pressure, gap, a.stiffness, tolerance)
 }
 
-pub fn density_check(table: &[u8], state: State, target: f64, tolerance: f64) -> Answer
-    ensures { λ r. ⌜ DensityStated (now (table .entry)) (state .temperature) (state .density) target tolerance r ⌝ }
+pub fn density_check(width: u64, table: &[u8], state: State, target: f64, tolerance: f64) -> Answer
+    ensures { λ r. ⌜ DensityStated width (now (table .entry)) (state .temperature) (state .density) target tolerance r ⌝ }
     ensures { λ r. ⌜ AnswerNumbers r ⌝ }
     ensures { λ r. ⌜ now (table .exit) ≡ now (table .entry) ⌝ }
 {
     let t = state.temperature;
     let rho = state.density;
+    if !sound_width(width) {
+        return Answer::Refused(Refusal::Width);
+    }
     match term::check_table(table) {
         Table::Length => Answer::Refused(Refusal::TableLength),
         Table::Broken(place) => Answer::Refused(Refusal::BrokenTerm(place)),
-        Table::Sound(_) => screened(table, t, rho, target, tolerance),
+        Table::Sound(_) => screened(width - 1, table, t, rho, target, tolerance),
     }
 }

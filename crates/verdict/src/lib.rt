@@ -1,6 +1,7 @@
-// The answers to a state, a proposed density and a proposed pair: the numbers, places and ends of documents 01 and 02.
+// The answers to a state, a proposed density and a proposed pair at 32 or 53 bits: the numbers, places and ends of documents 01 and 02.
 // Nothing here writes to the lent table.
 
+mod widths; // widths.rt: which widths there are
 mod handed; // handed.rt: ends handed out, and their tests
 mod phases; // phases.rt: one phase in one pass over the table
 mod densities; // densities.rt: the density check
@@ -23,8 +24,9 @@ pub struct Ends {
     pub upper: f64,
 }
 
-// A refusal with no ends: the numbers 1 to 8. A broken term has its place, counted from 1.
+// A refusal with no ends: the number 19, then 1 to 8. A broken term has its place, counted from 1.
 pub enum Refusal {
+    Width,
     TableLength,
     BrokenTerm(usize),
     Temperature,

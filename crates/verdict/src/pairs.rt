@@ -7,10 +7,13 @@ use crate::handed::handed_out;
 use crate::handed::pushes_back;
 use crate::handed::under_ceiling;
 use crate::phases::phase_of;
+use crate::widths::sound_width;
 use bracket::Bracket;
 use term::Table;
 ghost use mathlib.Core.Path.{_≡_};
 ghost use mathlib.Core.Bool.{true, _&&_};
+ghost use Prim.Native.Nat.{suc};
+ghost use Rattle.sheet.specs.Range.{Width};
 ghost use lib.Dec.{T};
 ghost use lib.Ieee.Scale.{finite};
 ghost use Rattle.doubles.specs.Double.{exactOf};
@@ -114,6 +117,7 @@ fn judged(
 
 // Each phase is worked out once, in one pass over the table.
 fn worked(
+    v: u64,
     table: &[u8],
     t: f64,
     liquid: f64,
@@ -121,21 +125,21 @@ fn worked(
     pressure_tolerance: f64,
     gibbs_tolerance: f64,
 ) -> Answer
-    requires { ⌜ WorkablePair (now table) t liquid vapour «pressure_tolerance» «gibbs_tolerance» ⌝ }
-    ensures { λ r. ⌜ r ≡ firstFailing (pairRest 32 (now (table .entry)) t liquid vapour «pressure_tolerance» «gibbs_tolerance») (Accepted (handedOut (pressure 32 (now (table .entry)) (exactOf t) (exactOf vapour)))) ⌝ }
+    requires { ⌜ WorkablePair v (now table) t liquid vapour «pressure_tolerance» «gibbs_tolerance» ⌝ }
+    ensures { λ r. ⌜ r ≡ firstFailing (pairRest (suc v) (now (table .entry)) t liquid vapour «pressure_tolerance» «gibbs_tolerance») (Accepted (handedOut (pressure (suc v) (now (table .entry)) (exactOf t) (exactOf vapour)))) ⌝ }
     ensures { λ r. ⌜ AnswerNumbers r ⌝ }
 {
-    let l = phase_of(table, t, liquid);
-    let v = phase_of(table, t, vapour);
-    let gap = equation::pressure_gap_of(l.pressure, v.pressure);
-    let gibbs = equation::gibbs_gap_of(t, liquid, vapour, l.sums, v.sums);
+    let l = phase_of(v, table, t, liquid);
+    let g = phase_of(v, table, t, vapour);
+    let gap = equation::pressure_gap_of(v, l.pressure, g.pressure);
+    let gibbs = equation::gibbs_gap_of(v, t, liquid, vapour, l.sums, g.sums);
     judged(
         l.pressure,
-        v.pressure,
+        g.pressure,
         gap,
         gibbs,
         l.stiffness,
-        v.stiffness,
+        g.stiffness,
         pressure_tolerance,
         gibbs_tolerance,
     )
@@ -143,6 +147,7 @@ fn worked(
 
 // 3, 4, 6 and 7, and what follows.
 fn screened(
+    v: u64,
     table: &[u8],
     t: f64,
     liquid: f64,
@@ -150,8 +155,8 @@ fn screened(
     pressure_tolerance: f64,
     gibbs_tolerance: f64,
 ) -> Answer
-    requires { ⌜ soundTable (now table) ≡ true ⌝ }
-    ensures { λ r. ⌜ r ≡ firstFailing (pairInputs 32 (now (table .entry)) t liquid vapour «pressure_tolerance» «gibbs_tolerance») (Accepted (handedOut (pressure 32 (now (table .entry)) (exactOf t) (exactOf vapour)))) ⌝ }
+    requires { ⌜ Width v × (soundTable (now table) ≡ true) ⌝ }
+    ensures { λ r. ⌜ r ≡ firstFailing (pairInputs (suc v) (now (table .entry)) t liquid vapour «pressure_tolerance» «gibbs_tolerance») (Accepted (handedOut (pressure (suc v) (now (table .entry)) (exactOf t) (exactOf vapour)))) ⌝ }
     ensures { λ r. ⌜ AnswerNumbers r ⌝ }
 {
     if !doubles::range::accepts_pair_temperature(t) {
@@ -167,6 +172,7 @@ fn screened(
         return Answer::Refused(Refusal::Sides);
     }
     worked(
+        v,
         table,
         t,
         liquid,
@@ -177,21 +183,33 @@ fn screened(
 }
 
 pub fn pair_check(
+    width: u64,
     table: &[u8],
     liquid: State,
     vapour: f64,
     pressure_tolerance: f64,
     gibbs_tolerance: f64,
 ) -> Answer
-    ensures { λ r. ⌜ PairStated (now (table .entry)) (liquid .temperature) (liquid .density) vapour «pressure_tolerance» «gibbs_tolerance» r ⌝ }
+    ensures { λ r. ⌜ PairStated width (now (table .entry)) (liquid .temperature) (liquid .density) vapour «pressure_tolerance» «gibbs_tolerance» r ⌝ }
     ensures { λ r. ⌜ AnswerNumbers r ⌝ }
     ensures { λ r. ⌜ now (table .exit) ≡ now (table .entry) ⌝ }
 {
     let t = liquid.temperature;
     let rho = liquid.density;
+    if !sound_width(width) {
+        return Answer::Refused(Refusal::Width);
+    }
     match term::check_table(table) {
         Table::Length => Answer::Refused(Refusal::TableLength),
         Table::Broken(place) => Answer::Refused(Refusal::BrokenTerm(place)),
-        Table::Sound(_) => screened(table, t, rho, vapour, pressure_tolerance, gibbs_tolerance),
+        Table::Sound(_) => screened(
+            width - 1,
+            table,
+            t,
+            rho,
+            vapour,
+            pressure_tolerance,
+            gibbs_tolerance,
+        ),
     }
 }

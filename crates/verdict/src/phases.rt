@@ -2,6 +2,7 @@
 use bracket::Bracket;
 use equation::Sums;
 ghost use mathlib.Core.Path.{_≡_};
+ghost use Prim.Native.Nat.{suc};
 ghost use Rattle.doubles.specs.Double.{exactOf};
 ghost use Rattle.verdict.specs.Worked.{phaseOf};
 ghost use Rattle.verdict.specs.Handed.{Workable};
@@ -12,13 +13,13 @@ pub struct Phase {
     pub stiffness: Bracket,
 }
 
-pub fn phase_of(table: &[u8], t: f64, rho: f64) -> Phase
-    requires { ⌜ Workable (now table) t rho ⌝ }
-    ensures { λ r. ⌜ r ≡ phaseOf 32 (now (table .entry)) (exactOf t) (exactOf rho) ⌝ }
+pub fn phase_of(v: u64, table: &[u8], t: f64, rho: f64) -> Phase
+    requires { ⌜ Workable v (now table) t rho ⌝ }
+    ensures { λ r. ⌜ r ≡ phaseOf (suc v) (now (table .entry)) (exactOf t) (exactOf rho) ⌝ }
 {
-    let sums = equation::sums_of(table, t, rho);
-    let pressure = equation::pressure_of(t, rho, sums);
-    let stiffness = equation::stiffness_of(t, sums);
+    let sums = equation::sums_of(v, table, t, rho);
+    let pressure = equation::pressure_of(v, t, rho, sums);
+    let stiffness = equation::stiffness_of(v, t, sums);
     Phase {
         sums,
         pressure,

@@ -1,14 +1,17 @@
-// The state sheet: the checks 1 to 4 and 8, then the brackets of pressure and of stiffness.
+// The state sheet: the checks 19, 1 to 4 and 8, then the brackets of pressure and of stiffness.
 use crate::Refusal;
 use crate::SheetAnswer;
 use crate::State;
 use crate::handed::handed_out;
 use crate::handed::under_ceiling;
 use crate::phases::phase_of;
+use crate::widths::sound_width;
 use bracket::Bracket;
 use term::Table;
 ghost use mathlib.Core.Path.{_≡_};
 ghost use mathlib.Core.Bool.{true};
+ghost use Prim.Native.Nat.{suc};
+ghost use Rattle.sheet.specs.Range.{Width};
 ghost use Rattle.term.specs.Sound.{soundTable};
 ghost use Rattle.verdict.specs.declared.SheetAnswer.the-variants.{Answered};
 ghost use Rattle.verdict.specs.Reading.{SheetNumbers};
@@ -33,9 +36,9 @@ fn worked(pressure: Bracket, stiffness: Bracket) -> SheetAnswer
 }
 
 // 3 and 4, and what follows.
-fn screened(table: &[u8], t: f64, rho: f64) -> SheetAnswer
-    requires { ⌜ soundTable (now table) ≡ true ⌝ }
-    ensures { λ r. ⌜ r ≡ firstFailing (stateInputs 32 (now (table .entry)) t rho) (stateAccepted 32 (now (table .entry)) t rho) ⌝ }
+fn screened(v: u64, table: &[u8], t: f64, rho: f64) -> SheetAnswer
+    requires { ⌜ Width v × (soundTable (now table) ≡ true) ⌝ }
+    ensures { λ r. ⌜ r ≡ firstFailing (stateInputs (suc v) (now (table .entry)) t rho) (stateAccepted (suc v) (now (table .entry)) t rho) ⌝ }
     ensures { λ r. ⌜ SheetNumbers r ⌝ }
 {
     if !doubles::range::accepts_temperature(t) {
@@ -44,20 +47,23 @@ fn screened(table: &[u8], t: f64, rho: f64) -> SheetAnswer
     if !doubles::range::accepts_density(rho) {
         return SheetAnswer::Refused(Refusal::Density);
     }
-    let a = phase_of(table, t, rho);
+    let a = phase_of(v, table, t, rho);
     worked(a.pressure, a.stiffness)
 }
 
-pub fn state_sheet(table: &[u8], state: State) -> SheetAnswer
-    ensures { λ r. ⌜ StateStated (now (table .entry)) (state .temperature) (state .density) r ⌝ }
+pub fn state_sheet(width: u64, table: &[u8], state: State) -> SheetAnswer
+    ensures { λ r. ⌜ StateStated width (now (table .entry)) (state .temperature) (state .density) r ⌝ }
     ensures { λ r. ⌜ SheetNumbers r ⌝ }
     ensures { λ r. ⌜ now (table .exit) ≡ now (table .entry) ⌝ }
 {
     let t = state.temperature;
     let rho = state.density;
+    if !sound_width(width) {
+        return SheetAnswer::Refused(Refusal::Width);
+    }
     match term::check_table(table) {
         Table::Length => SheetAnswer::Refused(Refusal::TableLength),
         Table::Broken(place) => SheetAnswer::Refused(Refusal::BrokenTerm(place)),
-        Table::Sound(_) => screened(table, t, rho),
+        Table::Sound(_) => screened(width - 1, table, t, rho),
     }
 }

@@ -1,10 +1,11 @@
 // Words on their way in and out of the programs that the comparisons run: eight bytes in, most significant first, 16 hexadecimal digits out;
-// and sheet numbers of three words, sign, digits and place. Assumes nothing.
+// a width, 32 or 53; and sheet numbers of three words, sign, digits and place. Assumes nothing.
 ghost use mathlib.Core.Path.{_≡_};
 ghost use mathlib.Core.Bool.{true};
+ghost use Prim.Native.Nat.{_<_};
 ghost use Rattle.exact.specs.Fraction.{nat, _≺_};
 ghost use Rattle.sheet.specs.Number.{value};
-ghost use Rattle.sheet.specs.Range.{InRange};
+ghost use Rattle.sheet.specs.Range.{Width, InRange};
 use libc::STDIN_FILENO;
 use libc::STDOUT_FILENO;
 use sheet::Sheet;
@@ -88,9 +89,23 @@ pub fn zero() -> Sheet {
     }
 }
 
+// One less than a width, as the functions that round take it; 0 for what is no width.
+pub fn digits_of(width: u64) -> u64
+    ensures { λ r. ⌜ (0 < r → Width r) ⌝ }
+{
+    if width == 32 {
+        return 31;
+    }
+    if width == 53 {
+        return 52;
+    }
+    0
+}
+
 // Whether the operations take the number.
-pub fn usable(s: Sheet) -> bool
-    ensures { λ r. ⌜ (r ≡ true → InRange s) ⌝ }
+pub fn usable(v: u64, s: Sheet) -> bool
+    requires { ⌜ Width v ⌝ }
+    ensures { λ r. ⌜ (r ≡ true → InRange v s) ⌝ }
 {
     let m = s.m;
     let e = s.e;
@@ -100,10 +115,7 @@ pub fn usable(s: Sheet) -> bool
         }
         return e == 0;
     }
-    if m < 2147483648 {
-        return false;
-    }
-    if 4294967295 < m {
+    if m >> v != 1 {
         return false;
     }
     if e < 242144 {

@@ -2,7 +2,7 @@
 use mathlib.Core.Path.{sym, _∙_}
 use mathlib.Core.Bool.{true≢false}
 use Rattle.exact.specs.Fraction.Order.{leq-true}
-use Rattle.sheet.proofs.Spelling.{normal-spelled}
+use Rattle.sheet.proofs.Live.{range-spelled}
 use borrow.Author.Needs.{needs}
 use Rattle.bracket_lines.proofs.held.Statement.{statement}
 use Rattle.bracket_lines.proofs.held.Tie as tie
@@ -15,7 +15,11 @@ usable-requires-2 c κs = search needs
 
 at-most-requires : tie.Need-at-most-requires
 at-most-requires c κs =
-    (normal-spelled 31 _ (c .before .before .before .usable .ensures (c .before .before .if1 .taken) .normal), normal-spelled 31 _ (c .before .usable2 .ensures (c .if2 .taken) .normal))
+    record {
+      v = c .before .before .before .before .args .v;
+      first = range-spelled (c .before .before .before .usable .ensures (c .before .before .if1 .taken));
+      second = range-spelled (c .before .usable2 .ensures (c .if2 .taken));
+    }
 
 returns : tie.Need-returns
 returns c = λ t.

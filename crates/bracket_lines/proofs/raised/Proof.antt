@@ -1,6 +1,6 @@
 -- `bracket_lines::raised` meets its contract: on the way every lower power is found in range. Assumes nothing.
 use mathlib.Core.Path.{_≡_, sym, ap, subst, _∙_}
-use Prim.Native.Nat.{ℕ, _-_, _≤_, _<_}
+use Prim.Native.Nat.{ℕ, suc, _-_, _≤_, _<_}
 use native.Mathlib.Numerals.{add-one}
 use native.Mathlib.Omega.{arith}
 use borrow.Author.Needs.{needs}
@@ -13,19 +13,19 @@ use Rattle.bracket_lines.proofs.raised.Statement.{statement}
 use Rattle.bracket_lines.proofs.raised.Tie as tie
 
 abbrev Inv-loop : tie.InvT-loop
-Inv-loop b n p₀ k₀ p k = (p ≡ power 32 b k) × (k ≤ n) × ((j : ℕ) → j < k → Held (power 32 b j))
+Inv-loop v b n p₀ k₀ p k = (p ≡ power (suc v) b k) × (k ≤ n) × ((j : ℕ) → j < k → Held v (power (suc v) b j))
 
 abbrev μ-loop : tie.MeasureT-loop
-μ-loop b n p₀ k₀ p k = n - k
+μ-loop v b n p₀ k₀ p k = n - k
 
 whole-requires : tie.Need-whole-requires Inv-loop μ-loop
-whole-requires c κs = omega arith
+whole-requires c κs = (c .pre .lo .width, omega arith)
 
 loop-holds : tie.Need-loop-holds Inv-loop μ-loop
-loop-holds c = (c .whole .ensures ∙ sym (power-zero 32 (c .before .args .b)), omega arith, λ j l. absurd (omega arith))
+loop-holds c = (c .whole .ensures ∙ sym (power-zero (suc (c .before .args .v)) (c .before .args .b)), omega arith, λ j l. absurd (omega arith))
 
 held-requires : tie.Need-held-requires Inv-loop μ-loop
-held-requires c κs = search needs
+held-requires c κs = c .before .before .before .pre .lo .width
 
 product-requires : tie.Need-product-requires Inv-loop μ-loop
 product-requires c κs = (c .before .held .ensures (c .if1 .taken), c .before .before .before .before .before .pre)
@@ -38,11 +38,12 @@ loop-less c = omega arith
 
 loop-again : tie.Need-loop-again Inv-loop μ-loop
 loop-again c =
+    let v = c .before .before .before .before .before .before .args .v in
     let b = c .before .before .before .before .before .before .args .b in
     let l = c .before .before .before .before .loop in
-    let h : Held (power 32 b (l .k)) = subst Held (l .inv .0) (c .before .before .held .ensures (c .before .if1 .taken)) in
-    let e = ap (λ (q : Bracket). times 32 (ends q) (ends b)) (l .inv .0) ∙ sym (power-suc 32 b (l .k)) ∙ ap (power 32 b) (sym (add-one (l .k))) in
-    (c .product .ensures ∙ e, omega arith, below-more (λ (j : ℕ). Held (power 32 b j)) (l .k) (l .inv .2) h)
+    let h : Held v (power (suc v) b (l .k)) = subst (Held v) (l .inv .0) (c .before .before .held .ensures (c .before .if1 .taken)) in
+    let e = ap (λ (q : Bracket). times (suc v) (ends q) (ends b)) (l .inv .0) ∙ sym (power-suc (suc v) b (l .k)) ∙ ap (power (suc v) b) (sym (add-one (l .k))) in
+    (c .product .ensures ∙ e, omega arith, below-more (λ (j : ℕ). Held v (power (suc v) b j)) (l .k) (l .inv .2) h)
 
 none-requires : tie.Need-none-requires Inv-loop μ-loop
 none-requires c κs = search needs

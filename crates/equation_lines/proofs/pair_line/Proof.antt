@@ -5,6 +5,9 @@ use Rattle.equation_lines.proofs.Given.{passed}
 use Rattle.equation_lines.proofs.pair_line.Statement.{statement}
 use Rattle.equation_lines.proofs.pair_line.Tie as tie
 
+digits-of-requires : tie.Need-digits-of-requires
+digits-of-requires c κs = search needs
+
 sound-requires : tie.Need-sound-requires
 sound-requires c κs = search needs
 
@@ -19,20 +22,21 @@ accepts-density-requires-2 c κs = search needs
 
 at-most-requires : tie.Need-at-most-requires
 at-most-requires c κs =
-    let start = c .before .before .before .before .before .before .before .before .before in (
-      density-finite (start .args .vapour) (passed (c .before .accepts-density2 .ensures) (c .if4 .taken)),
-      density-finite (start .args .liquid) (passed (c .before .before .before .accepts-density .ensures) (c .before .before .if3 .taken)),
+    let start = c .before .before .before .before .before .before .before .before .before .before .before in (
+      density-finite (start .args .vapour) (passed (c .before .accepts-density2 .ensures) (c .if5 .taken)),
+      density-finite (start .args .liquid) (passed (c .before .before .before .accepts-density .ensures) (c .before .before .if4 .taken)),
     )
 
 write-pair-requires : tie.Need-write-pair-requires
 write-pair-requires c κs = (
-  c .before .before .before .before .before .before .before .before .before .sound .ensures (c .before .before .before .before .before .before .before .before .if1 .taken),
+  c .before .before .before .before .before .before .before .before .before .sound .ensures (c .before .before .before .before .before .before .before .before .if2 .taken),
   (
-    passed (c .before .before .before .before .before .before .before .accepts-temperature .ensures) (c .before .before .before .before .before .before .if2 .taken),
+    c .before .before .before .before .before .before .before .before .before .before .before .digits-of .ensures (c .before .before .before .before .before .before .before .before .before .before .if1 .taken),
+    passed (c .before .before .before .before .before .before .before .accepts-temperature .ensures) (c .before .before .before .before .before .before .if3 .taken),
     record {
-      dense = passed (c .before .before .before .before .before .accepts-density .ensures) (c .before .before .before .before .if3 .taken);
-      thin = passed (c .before .before .before .accepts-density2 .ensures) (c .before .before .if4 .taken);
-      order = passed (c .before .at-most .ensures) (c .if5 .taken);
+      dense = passed (c .before .before .before .before .before .accepts-density .ensures) (c .before .before .before .before .if4 .taken);
+      thin = passed (c .before .before .before .accepts-density2 .ensures) (c .before .before .if5 .taken);
+      order = passed (c .before .at-most .ensures) (c .if6 .taken);
     },
   ),
 )
@@ -47,6 +51,7 @@ pub pair-line-spec : {M : Type 1} → statement M
 pair-line-spec =
     tie.close
     (tie.spec
+    digits-of-requires
     sound-requires
     accepts-temperature-requires
     accepts-density-requires

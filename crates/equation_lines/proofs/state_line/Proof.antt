@@ -4,6 +4,9 @@ use Rattle.equation_lines.proofs.Given.{passed}
 use Rattle.equation_lines.proofs.state_line.Statement.{statement}
 use Rattle.equation_lines.proofs.state_line.Tie as tie
 
+digits-of-requires : tie.Need-digits-of-requires
+digits-of-requires c κs = search needs
+
 sound-requires : tie.Need-sound-requires
 sound-requires c κs = search needs
 
@@ -15,8 +18,8 @@ accepts-density-requires c κs = search needs
 
 write-state-requires : tie.Need-write-state-requires
 write-state-requires c κs = (
-  c .before .before .before .before .before .sound .ensures (c .before .before .before .before .if1 .taken),
-  (passed (c .before .before .before .accepts-temperature .ensures) (c .before .before .if2 .taken), passed (c .before .accepts-density .ensures) (c .if3 .taken)),
+  c .before .before .before .before .before .sound .ensures (c .before .before .before .before .if2 .taken),
+  (c .before .before .before .before .before .before .before .digits-of .ensures (c .before .before .before .before .before .before .if1 .taken), passed (c .before .before .before .accepts-temperature .ensures) (c .before .before .if3 .taken), passed (c .before .accepts-density .ensures) (c .if4 .taken)),
 )
 
 end-line-requires : tie.Need-end-line-requires
@@ -29,6 +32,7 @@ pub state-line-spec : {M : Type 1} → statement M
 state-line-spec =
     tie.close
     (tie.spec
+    digits-of-requires
     sound-requires
     accepts-temperature-requires
     accepts-density-requires

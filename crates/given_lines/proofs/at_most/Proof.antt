@@ -1,6 +1,6 @@
 -- `given_lines::at_most` is safe: numbers in range have the one spelling. Assumes nothing.
 use borrow.Author.Needs.{needs}
-use Rattle.sheet.proofs.Spelling.{normal-spelled}
+use Rattle.sheet.proofs.Live.{range-spelled}
 use Rattle.given_lines.proofs.at_most.Statement.{statement}
 use Rattle.given_lines.proofs.at_most.Tie as tie
 
@@ -12,7 +12,11 @@ usable-requires-2 c κs = search needs
 
 at-most-requires : tie.Need-at-most-requires
 at-most-requires c κs =
-    (normal-spelled 31 _ (c .before .before .before .usable .ensures (c .before .before .if1 .taken) .normal), normal-spelled 31 _ (c .before .usable2 .ensures (c .if2 .taken) .normal))
+    record {
+      v = c .before .before .before .before .args .v;
+      first = range-spelled (c .before .before .before .usable .ensures (c .before .before .if1 .taken));
+      second = range-spelled (c .before .usable2 .ensures (c .if2 .taken));
+    }
 
 flag-requires : tie.Need-flag-requires
 flag-requires c κs = search needs

@@ -15,7 +15,7 @@ float-from-bits-given : tie.Need-float-from-bits-given
 float-from-bits-given c = number-pattern (c .before .args .bits) (c .if1 .left)
 
 given-requires : tie.Need-given-requires
-given-requires c κs = field-finite (c .before .args .bits) _ refl (c .if1 .left)
+given-requires c κs = (c .before .pre, field-finite (c .before .args .bits) _ refl (c .if1 .left))
 
 returns-2 : tie.Need-returns-2
 returns-2 c = search needs

@@ -32,12 +32,14 @@ at-most-requires c κs =
     )
 
 ln-ratio-requires : tie.Need-ln-ratio-requires
-ln-ratio-requires c κs =
-    record {
-      dense = found (c .before .before .before .before .before .accepts-density .ensures) (c .before .before .before .before .if1 .taken);
-      thin = found (c .before .before .before .accepts-density2 .ensures) (c .before .before .if2 .taken);
-      order = found (c .before .at-most .ensures) (c .if3 .taken);
-    }
+ln-ratio-requires c κs = (
+  c .before .before .before .before .before .before .pre,
+  record {
+    dense = found (c .before .before .before .before .before .accepts-density .ensures) (c .before .before .before .before .if1 .taken);
+    thin = found (c .before .before .before .accepts-density2 .ensures) (c .before .before .if2 .taken);
+    order = found (c .before .at-most .ensures) (c .if3 .taken);
+  },
+)
 
 returns : tie.Need-returns
 returns c = search needs

@@ -2,7 +2,7 @@
 use mathlib.Core.Path.{sym, _∙_}
 use mathlib.Core.Bool.{true≢false}
 use Rattle.exact.specs.Fraction.Order.{leq-true}
-use Rattle.sheet.proofs.Spelling.{normal-spelled}
+use Rattle.sheet.proofs.Live.{range-spelled}
 use borrow.Author.Needs.{needs}
 use Rattle.series_lines.proofs.taken.Statement.{statement}
 use Rattle.series_lines.proofs.taken.Tie as tie
@@ -14,10 +14,12 @@ usable-requires-2 : tie.Need-usable-requires-2
 usable-requires-2 c κs = search needs
 
 at-most-requires : tie.Need-at-most-requires
-at-most-requires c κs = (
-  normal-spelled 31 _ (c .before .before .before .usable .ensures (c .before .before .if1 .taken) .range .normal),
-  normal-spelled 31 _ (c .before .usable2 .ensures (c .if2 .taken) .range .normal),
-)
+at-most-requires c κs =
+    record {
+      v = c .before .before .before .before .args .v;
+      first = range-spelled (c .before .before .before .usable .ensures (c .before .before .if1 .taken) .range);
+      second = range-spelled (c .before .usable2 .ensures (c .if2 .taken) .range);
+    }
 
 returns : tie.Need-returns
 returns c = λ t.

@@ -23,7 +23,10 @@ zero-requires-2 c κs = search needs
 returns-2 : tie.Need-returns-2
 returns-2 c = search needs
 
-both : (c : tie.Else2) → InRange (c .before .before .before .before .args .a) × InRange (c .before .before .before .before .args .b)
+abbrev Both : tie.Else2 → Type 0
+Both c = let a = c .before .before .before .before .args in InRange (a .v) (a .a) × InRange (a .v) (a .b)
+
+both : (c : tie.Else2) → Both c
 both c = (
   c .before .before .before .usable .ensures (not-false (c .before .before .before .usable .result) (c .before .before .if1 .left)),
   c .before .usable2 .ensures (not-false (c .before .usable2 .result) (c .if2 .left)),

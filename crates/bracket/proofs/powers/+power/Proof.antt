@@ -1,6 +1,6 @@
 -- `bracket::power` meets its contract. It calls itself at n - 1, so its measure is n. Assumes nothing.
 use mathlib.Core.Path.{sym, ap, subst, _∙_}
-use Prim.Native.Nat.{ℕ, _-_, _<_}
+use Prim.Native.Nat.{ℕ, suc, _-_, _<_}
 use native.Mathlib.Nat.{pos-of-ne-zero}
 use native.Mathlib.Omega.{arith}
 use Rattle.bracket.specs.declared.Bracket.{Bracket}
@@ -18,7 +18,7 @@ use Rattle.bracket.proofs.powers.+power.{statement}
 use Rattle.bracket.proofs.powers.+power.Tie.{close}
 
 abbrev μ-power : Measures 0 power-kinds.ps ℕ
-μ-power κs a = a .1 .0
+μ-power κs a = a .1 .1 .0
 
 abbrev power-at : ℕ → In 0 power-kinds.ps
 power-at t = and 0 power-kinds.ps (is 0 power-kinds.ps μ-power t) power-reads.Pre
@@ -35,7 +35,7 @@ power-whole-requires : (t : ℕ) → power-lts.Need-whole-requires (
   product-reads.Asked,
   product-reads.Learnt,
 ) (power-at t) power-reads.Post
-power-whole-requires t c κs = omega arith
+power-whole-requires t c κs = (c .before .pre .1 .base .lo .width, omega arith)
 
 -- src/powers.rt:17:26
 power-sub-power : (t : ℕ) → power-lts.Need-sub-power (
@@ -74,7 +74,7 @@ power-product-requires : (t : ℕ) → power-lts.Need-product-requires (
 power-product-requires t c κs =
     let p = pos-of-ne-zero (c .before .if1 .left) in
     let h = c .before .before .pre .1 in
-    (subst Held (sym (c .power .ensures)) (h .each (c .before .before .args .n - 1) (omega arith)), h .base)
+    (subst (Held (c .before .before .args .v)) (sym (c .power .ensures)) (h .each (c .before .before .args .n - 1) (omega arith)), h .base)
 
 -- src/powers.rt:10:1
 power-returns : (t : ℕ) → power-lts.Need-returns (
@@ -85,7 +85,7 @@ power-returns : (t : ℕ) → power-lts.Need-returns (
   product-reads.Asked,
   product-reads.Learnt,
 ) (power-at t) power-reads.Post
-power-returns t c = c .whole .ensures ∙ sym (ap (power 32 (c .before .before .args .b)) (c .before .if1 .taken) ∙ power-zero 32 (c .before .before .args .b))
+power-returns t c = let a = c .before .before .args in c .whole .ensures ∙ sym (ap (power (suc (a .v)) (a .b)) (c .before .if1 .taken) ∙ power-zero (suc (a .v)) (a .b))
 
 -- src/powers.rt:10:1
 power-returns-2 : (t : ℕ) → power-lts.Need-returns-2 (
@@ -98,7 +98,7 @@ power-returns-2 : (t : ℕ) → power-lts.Need-returns-2 (
 ) (power-at t) power-reads.Post
 power-returns-2 t c =
     let a = c .before .before .before .args in
-    c .product .ensures ∙ ap (λ (x : Bracket). times 32 (ends x) (ends (a .b))) (c .before .power .ensures) ∙ power-step 32 (a .b) (a .n) (pos-of-ne-zero (c .before .before .if1 .left))
+    c .product .ensures ∙ ap (λ (x : Bracket). times (suc (a .v)) (ends x) (ends (a .b))) (c .before .power .ensures) ∙ power-step (suc (a .v)) (a .b) (a .n) (pos-of-ne-zero (c .before .before .if1 .left))
 
 pub +power-spec : {M : Type 1} → statement M
 +power-spec = close μ-power λ t. power-lts.spec (

@@ -18,17 +18,22 @@ product-requires-4 : tie.Need-product-requires-4
 product-requires-4 c κs = search needs
 
 lesser-requires : tie.Need-lesser-requires
-lesser-requires c κs = (rounding-spelled false 31 _ (c .before .before .before .product .ensures), rounding-spelled false 31 _ (c .before .before .product2 .ensures))
+lesser-requires c κs =
+    let v = c .before .before .before .before .args .v in
+    record { v = v; first = rounding-spelled false v _ (c .before .before .before .product .ensures); second = rounding-spelled false v _ (c .before .before .product2 .ensures) }
 
 greater-requires : tie.Need-greater-requires
-greater-requires c κs = (rounding-spelled true 31 _ (c .before .before .product3 .ensures), rounding-spelled true 31 _ (c .before .product4 .ensures))
+greater-requires c κs =
+    let v = c .before .before .before .before .before .args .v in
+    record { v = v; first = rounding-spelled true v _ (c .before .before .product3 .ensures); second = rounding-spelled true v _ (c .before .product4 .ensures) }
 
 returns : tie.Need-returns
 returns c =
+    let v = c .before .before .before .before .before .before .args .v in
     λ i.
     record {
-      lo = lesser-is false 31 _ _ (c .before .before .before .before .before .product .ensures) (c .before .before .before .before .product2 .ensures) (c .before .lesser .ensures) i;
-      hi = greater-is true 31 _ _ (c .before .before .before .product3 .ensures) (c .before .before .product4 .ensures) (c .greater .ensures) i;
+      lo = lesser-is false v _ _ (c .before .before .before .before .before .product .ensures) (c .before .before .before .before .product2 .ensures) (c .before .lesser .ensures) i;
+      hi = greater-is true v _ _ (c .before .before .before .product3 .ensures) (c .before .before .product4 .ensures) (c .greater .ensures) i;
     }
 
 pub across-spec : {M : Type 1} → statement M

@@ -15,7 +15,7 @@ returns : tie.Need-returns
 returns c =
     let a = c .before .before .args in
     let h = c .before .before .pre in
-    c .with-sign .ensures ∙ times-below 31 (a .a) (a .b) (held-ordered (h .0)) (held-ordered (h .1)) (sign-of (a .b .hi) (c .before .if1 .taken))
+    c .with-sign .ensures ∙ times-below (a .v) (a .a) (a .b) (held-ordered (h .0)) (held-ordered (h .1)) (sign-of (a .b .hi) (c .before .if1 .taken))
 
 with-sign-requires-2 : tie.Need-with-sign-requires-2
 with-sign-requires-2 c κs = search needs
@@ -24,7 +24,7 @@ returns-2 : tie.Need-returns-2
 returns-2 c =
     let a = c .before .before .before .args in
     let h = c .before .before .before .pre in
-    c .with-sign2 .ensures ∙ times-below 31 (a .b) (a .a) (held-ordered (h .1)) (held-ordered (h .0)) (sign-of (a .a .hi) (c .before .if2 .taken)) ∙ times-comm 31 (ends (a .b)) (ends (a .a))
+    c .with-sign2 .ensures ∙ times-below (a .v) (a .b) (a .a) (held-ordered (h .1)) (held-ordered (h .0)) (sign-of (a .a .hi) (c .before .if2 .taken)) ∙ times-comm (a .v) (ends (a .b)) (ends (a .a))
 
 across-requires : tie.Need-across-requires
 across-requires c κs = search needs
@@ -42,19 +42,19 @@ returns-3 c =
     let ah = sign-of (a .a .hi) (c .before .before .before .if2 .left) in
     let bl = sign-of (a .b .lo) (c .before .before .if3 .taken) in
     let bh = sign-of (a .b .hi) (c .before .before .before .before .if1 .left) in
-    c .across .ensures ∙ rounded-is 31 (over-across {A = ends (a .a)} {B = ends (a .b)} al ah bl bh) refl refl
+    c .across .ensures ∙ rounded-is (a .v) (over-across {A = ends (a .a)} {B = ends (a .b)} al ah bl bh) refl refl
 
 returns-4 : tie.Need-returns-4
 returns-4 c =
     let a = c .before .before .before .before .before .args in
     let h = c .before .before .before .before .before .pre in
-    c .with-sign3 .ensures ∙ times-above 31 (a .b) (a .a) (held-ordered (h .1)) (held-ordered (h .0)) (sign-of (a .a .lo) (c .before .if4 .left)) ∙ times-comm 31 (ends (a .b)) (ends (a .a))
+    c .with-sign3 .ensures ∙ times-above (a .v) (a .b) (a .a) (held-ordered (h .1)) (held-ordered (h .0)) (sign-of (a .a .lo) (c .before .if4 .left)) ∙ times-comm (a .v) (ends (a .b)) (ends (a .a))
 
 returns-5 : tie.Need-returns-5
 returns-5 c =
     let a = c .before .before .before .before .args in
     let h = c .before .before .before .before .pre in
-    c .with-sign4 .ensures ∙ times-above 31 (a .a) (a .b) (held-ordered (h .0)) (held-ordered (h .1)) (sign-of (a .b .lo) (c .before .if3 .left))
+    c .with-sign4 .ensures ∙ times-above (a .v) (a .a) (a .b) (held-ordered (h .0)) (held-ordered (h .1)) (sign-of (a .b .lo) (c .before .if3 .left))
 
 pub product-spec : {M : Type 1} → statement M
 product-spec =

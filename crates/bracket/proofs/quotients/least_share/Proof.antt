@@ -1,31 +1,24 @@
 -- `bracket::least_share` meets its contract: the end is taken by the sign, and both ends of the divisor are above zero. Assumes nothing.
+use Prim.Native.Nat.{suc}
 use borrow.Author.Needs.{needs}
-use mathlib.Core.Path.{sym, ap, _∙_}
-use mathlib.Core.Bool.{Bool, not}
-use Rattle.exact.specs.Fraction.{_⊘_}
+use mathlib.Core.Path.{ap, _∙_}
+use Rattle.exact.specs.Fraction.{Fraction, _⊘_}
 use Rattle.exact.specs.Fraction.Order.{≺-≼-trans}
 use Rattle.sheet.specs.Number.{value}
 use Rattle.sheet.specs.Round.{down}
-use Rattle.bracket.specs.Span.{side}
-use Rattle.bracket.specs.Rules.{ends}
 use Rattle.bracket.proofs.quotients.least_share.Statement.{statement}
 use Rattle.bracket.proofs.quotients.least_share.Tie as tie
 
-quotient-requires : tie.Need-quotient-requires
-quotient-requires c κs = search (needs, ≺-≼-trans)
+end-requires : tie.Need-end-requires
+end-requires c κs = search needs
 
-quotient-requires-2 : tie.Need-quotient-requires-2
-quotient-requires-2 c κs = search (needs, ≺-≼-trans)
+quotient-requires : tie.Need-quotient-requires
+quotient-requires c κs = ((c .before .before .pre .0, c .end .ensures .0), ≺-≼-trans (c .before .before .pre .2) (c .end .ensures .2))
 
 returns : tie.Need-returns
 returns c =
-    let a = c .before .before .args in
-    c .quotient .ensures ∙ ap (λ (n : Bool). down 32 (value (a .x) ⊘ side (not n) (ends (a .b)))) (sym (c .before .if1 .taken))
-
-returns-2 : tie.Need-returns-2
-returns-2 c =
-    let a = c .before .before .args in
-    c .quotient2 .ensures ∙ ap (λ (n : Bool). down 32 (value (a .x) ⊘ side (not n) (ends (a .b)))) (sym (c .before .if1 .left))
+    let a = c .before .before .before .args in
+    c .quotient .ensures ∙ ap (λ (y : Fraction). down (suc (a .v)) (value (a .x) ⊘ y)) (c .before .end .ensures .1)
 
 pub least-share-spec : {M : Type 1} → statement M
-least-share-spec = tie.close (tie.spec quotient-requires quotient-requires-2 returns returns-2)
+least-share-spec = tie.close (tie.spec end-requires quotient-requires returns)

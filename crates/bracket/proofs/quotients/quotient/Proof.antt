@@ -15,7 +15,7 @@ returns : tie.Need-returns
 returns c =
     let a = c .before .before .args in
     let h = c .before .before .pre in
-    (λ i. record { lo = c .before .least-share .ensures i; hi = c .greatest-share .ensures i }) ∙ divided-by 31 (a .a) (a .b) (held-ordered (h .0)) (held-ordered (h .1)) (h .2)
+    (λ i. record { lo = c .before .least-share .ensures i; hi = c .greatest-share .ensures i }) ∙ divided-by (a .v) (a .a) (a .b) (held-ordered (h .0)) (held-ordered (h .1)) (h .2)
 
 pub quotient-spec : {M : Type 1} → statement M
 quotient-spec = tie.close (tie.spec least-share-requires greatest-share-requires returns)

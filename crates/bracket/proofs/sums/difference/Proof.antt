@@ -15,7 +15,7 @@ difference-requires-2 c κs = search needs
 returns : tie.Need-returns
 returns c =
     let h = c .before .before .pre in
-    rounded-is 31 (over-minus (held-ordered (h .0)) (held-ordered (h .1))) (c .before .difference .ensures) (c .difference2 .ensures)
+    rounded-is (c .before .before .args .v) (over-minus (held-ordered (h .0)) (held-ordered (h .1))) (c .before .difference .ensures) (c .difference2 .ensures)
 
 pub difference-spec : {M : Type 1} → statement M
 difference-spec = tie.close (tie.spec difference-requires difference-requires-2 returns)

@@ -15,7 +15,7 @@ sum-requires-2 c κs = search needs
 returns : tie.Need-returns
 returns c =
     let h = c .before .before .pre in
-    rounded-is 31 (over-plus (held-ordered (h .0)) (held-ordered (h .1))) (c .before .sum .ensures) (c .sum2 .ensures)
+    rounded-is (c .before .before .args .v) (over-plus (held-ordered (h .0)) (held-ordered (h .1))) (c .before .sum .ensures) (c .sum2 .ensures)
 
 pub sum-spec : {M : Type 1} → statement M
 sum-spec = tie.close (tie.spec sum-requires sum-requires-2 returns)

@@ -11,7 +11,7 @@ given-requires-2 : tie.Need-given-requires-2
 given-requires-2 c κs = search needs
 
 returns : tie.Need-returns
-returns c = rounded-is 31 (≃-refl _) (c .before .given .ensures) (c .given2 .ensures)
+returns c = rounded-is (c .before .before .args .v) (≃-refl _) (c .before .given .ensures) (c .given2 .ensures)
 
 pub given-spec : {M : Type 1} → statement M
 given-spec = tie.close (tie.spec given-requires given-requires-2 returns)

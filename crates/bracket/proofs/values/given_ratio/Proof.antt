@@ -11,7 +11,7 @@ ratio-requires-2 : tie.Need-ratio-requires-2
 ratio-requires-2 c κs = search needs
 
 returns : tie.Need-returns
-returns c = rounded-is 31 (≃-refl _) (c .before .ratio .ensures) (c .ratio2 .ensures)
+returns c = rounded-is (c .before .before .args .v) (≃-refl _) (c .before .ratio .ensures) (c .ratio2 .ensures)
 
 pub given-ratio-spec : {M : Type 1} → statement M
 given-ratio-spec = tie.close (tie.spec ratio-requires ratio-requires-2 returns)

@@ -19,7 +19,7 @@ decode-requires : tie.Need-decode-requires
 decode-requires c κs = search needs
 
 rounded-requires : tie.Need-rounded-requires
-rounded-requires c κs = record { full = λ t. absurd (true≢false (sym t)); room = omega (arith, c .decode .ensures .place) }
+rounded-requires c κs = (c .before .pre .0, record { full = λ t. absurd (true≢false (sym t)); room = omega (arith, c .decode .ensures .place) })
 
 returns : tie.Need-returns
 returns c =
@@ -27,7 +27,7 @@ returns c =
     let p = c .before .decode .result in
     c .rounded .ensures (p .m * 2 ^ p .e) 1 (place-whole (p .m) (p .e))
     ∙ sym
-    (round-parts (at .up) 31 (exactOf (at .x)) (p .neg) (p .m * 2 ^ p .e) (2 ^ bias) (p .m * 2 ^ p .e) 1 (pow-pos bias) (lit< tt) (≈-sym (c .before .decode .ensures .value))
+    (round-parts (at .up) (at .v) (exactOf (at .x)) (p .neg) (p .m * 2 ^ p .e) (2 ^ bias) (p .m * 2 ^ p .e) 1 (pow-pos bias) (lit< tt) (≈-sym (c .before .decode .ensures .value))
     (sym (mul-one (p .m * 2 ^ p .e * 2 ^ bias))))
 
 pub given-spec : {M : Type 1} → statement M

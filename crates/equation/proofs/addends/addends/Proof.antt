@@ -1,5 +1,6 @@
 -- `equation::addends::addends` meets its contract. Assumes nothing.
 use mathlib.Core.Path.{_≡_, sym, subst}
+use Prim.Native.Nat.{ℕ, suc}
 use native.Mathlib.Omega.{arith}
 use Rattle.bracket.specs.declared.Bracket.{Bracket}
 use Rattle.bracket.specs.Rules.{power}
@@ -13,18 +14,18 @@ use Rattle.equation.proofs.addends.addends.Statement.{statement}
 use Rattle.equation.proofs.addends.addends.Tie as tie
 
 -- what the results of the calls are held to
-module _ (term : Term) (a b : Bracket) (s : Bounds term) (p : DeltaIn a) (q : TauIn b) where
-  g-held : {g : Bracket} → g ≡ power 32 a (term .c) → GIn g
-  g-held e = subst GIn (sym e) (g-in a p (term .c) (s .c-below))
+module _ {v : ℕ} (term : Term) (a b : Bracket) (s : Bounds term) (p : DeltaIn v a) (q : TauIn v b) where
+  g-held : {g : Bracket} → g ≡ power (suc v) a (term .c) → GIn v g
+  g-held e = subst (GIn v) (sym e) (g-in a p (term .c) (s .c-below))
 
-  e-held : {g e : Bracket} → g ≡ power 32 a (term .c) → e ≡ factorE 32 (term .c) g → EIn e
-  e-held {g} i j = subst EIn (sym j) (e-in (term .c) (s .c-below) g (g-held i))
+  e-held : {g e : Bracket} → g ≡ power (suc v) a (term .c) → e ≡ factorE (suc v) (term .c) g → EIn v e
+  e-held {g} i j = subst (EIn v) (sym j) (e-in (term .c) (s .c-below) g (g-held i))
 
-  v-held : {g e tv : Bracket} → g ≡ power 32 a (term .c) → e ≡ factorE 32 (term .c) g → tv ≡ termV 32 term a b e → VIn tv
-  v-held {e = e} i j k = subst VIn (sym k) (v-in a b p q term s e (e-held i j))
+  v-held : {g e tv : Bracket} → g ≡ power (suc v) a (term .c) → e ≡ factorE (suc v) (term .c) g → tv ≡ termV (suc v) term a b e → VIn v tv
+  v-held {e = e} i j k = subst (VIn v) (sym k) (v-in a b p q term s e (e-held i j))
 
-  w-held : {g tw : Bracket} → g ≡ power 32 a (term .c) → tw ≡ termW 32 (term .d) (term .c) g → WIn tw
-  w-held {g} i k = subst WIn (sym k) (w-in g (g-held i) (term .d) (term .c) (s .d-above) (s .d-below) (s .c-below))
+  w-held : {g tw : Bracket} → g ≡ power (suc v) a (term .c) → tw ≡ termW (suc v) (term .d) (term .c) g → WIn v tw
+  w-held {g} i k = subst (WIn v) (sym k) (w-in g (g-held i) (term .d) (term .c) (s .d-above) (s .d-below) (s .c-below))
 
 power-requires : tie.Need-power-requires
 power-requires c κs =
@@ -65,7 +66,7 @@ addends-of-requires c κs =
 returns : tie.Need-returns
 returns c =
     let a = c .before .before .before .before .before .args in
-    addends-is (a .term) (a .delta) (a .tau) (c .before .before .before .before .power .ensures) (c .before .before .before .factor-e .ensures)
+    addends-is (suc (a .v)) (a .term) (a .delta) (a .tau) (c .before .before .before .before .power .ensures) (c .before .before .before .factor-e .ensures)
     (c .before .before .term-v .ensures) (c .before .term-w .ensures) (c .addends-of .ensures)
 
 pub addends-spec : {M : Type 1} → statement M

@@ -22,7 +22,7 @@ product-requires-2 c κs =
 returns : tie.Need-returns
 unfolding addendsOf
 returns c =
-    let e = times-of refl (c .before .factor-s2 .ensures) (c .product2 .ensures) in
+    let e = times-of _ refl (c .before .factor-s2 .ensures) (c .product2 .ensures) in
     λ i. record { s0 = c .before .before .before .args .tv; s1 = c .before .before .product .ensures i; s2 = e i }
 
 pub addends-of-spec : {M : Type 1} → statement M

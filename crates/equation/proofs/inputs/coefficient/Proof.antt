@@ -1,11 +1,11 @@
 -- `equation::inputs::coefficient` meets its contract. Assumes nothing.
-use borrow.Author.Needs.{needs}
+use native.Mathlib.Omega.{arith}
 use Rattle.equation.specs.Rules.{coefficient}
 use Rattle.equation.proofs.inputs.coefficient.Statement.{statement}
 use Rattle.equation.proofs.inputs.coefficient.Tie as tie
 
 given-ratio-requires : tie.Need-given-ratio-requires
-given-ratio-requires c κs = search needs
+given-ratio-requires c κs = (c .pre, omega arith, omega arith)
 
 returns : tie.Need-returns
 unfolding coefficient

@@ -19,7 +19,7 @@ difference-requires c κs =
 
 returns : tie.Need-returns
 unfolding sumsApart
-returns c = minus-of (c .before .before .sum .ensures) (c .before .sum2 .ensures) (c .difference .ensures)
+returns c = minus-of _ (c .before .before .sum .ensures) (c .before .sum2 .ensures) (c .difference .ensures)
 
 pub sums-apart-spec : {M : Type 1} → statement M
 sums-apart-spec = tie.close (tie.spec sum-requires sum-requires-2 difference-requires returns)

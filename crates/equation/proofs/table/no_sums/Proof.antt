@@ -1,11 +1,11 @@
 -- `equation::table::no_sums` meets its contract. Assumes nothing.
-use borrow.Author.Needs.{needs}
+use native.Mathlib.Omega.{arith}
 use Rattle.equation.specs.Rules.{noSums}
 use Rattle.equation.proofs.table.no_sums.Statement.{statement}
 use Rattle.equation.proofs.table.no_sums.Tie as tie
 
 whole-requires : tie.Need-whole-requires
-whole-requires c κs = search needs
+whole-requires c κs = (c .pre, omega arith)
 
 returns : tie.Need-returns
 unfolding noSums

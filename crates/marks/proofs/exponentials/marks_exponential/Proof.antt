@@ -8,10 +8,13 @@ use Rattle.marks.proofs.exponentials.marks_exponential.Statement.{state
 use Rattle.marks.proofs.exponentials.marks_exponential.Tie as tie
 
 abbrev Inv-loop : tie.InvT-loop
-Inv-loop list total₀ at₀ total at = at ≤ length list
+Inv-loop width list v total₀ at₀ total at = at ≤ length list
 
 abbrev μ-loop : tie.MeasureT-loop
-μ-loop list total₀ at₀ total at = length list - at
+μ-loop width list v total₀ at₀ total at = length list - at
+
+below-requires : tie.Need-below-requires Inv-loop μ-loop
+below-requires c κs = search needs
 
 loop-holds : tie.Need-loop-holds Inv-loop μ-loop
 loop-holds c = omega arith
@@ -55,6 +58,7 @@ marks-exponential-spec =
     (tie.spec
     Inv-loop
     μ-loop
+    below-requires
     loop-holds
     sub-loop
     argument-requires

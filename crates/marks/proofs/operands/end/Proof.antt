@@ -1,17 +1,13 @@
 -- `marks::operands::end` meets its contract. Assumes nothing.
 use mathlib.Core.Path.{refl}
-use mathlib.Core.Bool.{false}
+use Prim.Native.Nat.{_+_}
+use lib.ListN.{getD}
 use native.Mathlib.Omega.{arith}
 use borrow.Author.Needs.{needs}
 use Rattle.sheet.proofs.Live.{bias-is}
-use Rattle.marks.specs.Argument.{Argument}
+use Rattle.marks.proofs.Arguments.{digits-of, one}
 use Rattle.marks.proofs.operands.end.Statement.{statement}
 use Rattle.marks.proofs.operands.end.Tie as tie
-
-one : Argument (record { neg = false; m = 2147483648; e = 262113 })
-one =
-    let z = bias-is in
-    record { plain = refl; digits = record { low = omega arith; high = omega arith }; least = omega arith; most = omega arith }
 
 add-m : tie.Need-add-m
 add-m c = search needs
@@ -31,22 +27,39 @@ mul-e c = search needs
 shared-slice-read-e : tie.Need-shared-slice-read-e
 shared-slice-read-e c = search needs
 
+shl-if1 : tie.Need-shl-if1
+shl-if1 c = search needs
+
+sub-if2 : tie.Need-sub-if2
+sub-if2 c = search needs
+
+shr-if1 : tie.Need-shr-if1
+shr-if1 c = search needs
+
 returns : tie.Need-returns
-returns c = one
+returns c = one (c .before .before .before .pre .0)
+
+sub-if2-2 : tie.Need-sub-if2-2
+sub-if2-2 c = search needs
 
 returns-2 : tie.Need-returns-2
-returns-2 c = one
+returns-2 c = one (c .before .before .before .before .pre .0)
+
+sub-if3 : tie.Need-sub-if3
+sub-if3 c = search needs
 
 returns-3 : tie.Need-returns-3
-returns-3 c = one
+returns-3 c = one (c .before .before .before .before .before .pre .0)
 
 returns-4 : tie.Need-returns-4
-returns-4 c = one
-
-returns-5 : tie.Need-returns-5
-returns-5 c =
+returns-4 c =
     let z = bias-is in
-    record { plain = refl; digits = record { low = omega arith; high = omega arith }; least = omega arith; most = omega arith }
+    let a = c .before .before .before .before .before in
+    let w = a .pre .0 in
+    let h = w .high in
+    let m = getD (a .args .list .now) (a .args .at + 1) 0 in
+    let d = digits-of (a .args .v) m (omega (arith, c .before .before .if1 .left)) in
+    record { plain = refl; width = w; digits = d; least = omega arith; most = omega arith }
 
 pub end-spec : {M : Type 1} → statement M
 end-spec =
@@ -58,8 +71,12 @@ end-spec =
     add-e
     mul-e
     shared-slice-read-e
+    shl-if1
+    sub-if2
+    shr-if1
     returns
+    sub-if2-2
     returns-2
+    sub-if3
     returns-3
-    returns-4
-    returns-5)
+    returns-4)

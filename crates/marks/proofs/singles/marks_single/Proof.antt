@@ -7,10 +7,13 @@ use Rattle.marks.proofs.singles.marks_single.Statement.{statement}
 use Rattle.marks.proofs.singles.marks_single.Tie as tie
 
 abbrev Inv-loop : tie.InvT-loop
-Inv-loop operation up list total₀ at₀ total at = at ≤ length list
+Inv-loop width operation up list v total₀ at₀ total at = at ≤ length list
 
 abbrev μ-loop : tie.MeasureT-loop
-μ-loop operation up list total₀ at₀ total at = length list - at
+μ-loop width operation up list v total₀ at₀ total at = length list - at
+
+below-requires : tie.Need-below-requires Inv-loop μ-loop
+below-requires c κs = search needs
 
 loop-holds : tie.Need-loop-holds Inv-loop μ-loop
 loop-holds c = omega arith
@@ -45,6 +48,7 @@ marks-single-spec =
     (tie.spec
     Inv-loop
     μ-loop
+    below-requires
     loop-holds
     sub-loop
     result-requires

@@ -5,14 +5,16 @@ use native.Mathlib.Omega.{arith}
 use borrow.Author.Needs.{needs}
 use Rattle.sheet.specs.Number.{Spelled}
 use Rattle.sheet.proofs.Laws.{round-spelled}
-use Rattle.sheet.proofs.Live.{place-room}
-use Rattle.sheet.proofs.Spelling.{normal-spelled}
+use Rattle.sheet.proofs.Live.{place-room, range-spelled}
 use Rattle.series.proofs.ExponentialSteps.{term-held, stretches-is}
 use Rattle.series.proofs.exponential.only_stretches.Statement.{statement}
 use Rattle.series.proofs.exponential.only_stretches.Tie as tie
 
 add-if1 : tie.Need-add-if1
-add-if1 c = let p = c .pre in omega (arith, place-room (term-held (p .1) (omega arith) (p .3) .hi))
+add-if1 c = let p = c .pre in omega (arith, place-room (term-held (p .0 .lo .width) (p .1) (omega arith) (p .3) .hi), p .0 .lo .width .high)
+
+add-if1-2 : tie.Need-add-if1-2
+add-if1-2 c = let p = c .pre in omega (arith, place-room (term-held (p .0 .lo .width) (p .1) (omega arith) (p .3) .hi), p .0 .lo .width .high)
 
 returns : tie.Need-returns
 returns c = λ z. absurd (false≢true z)
@@ -24,12 +26,13 @@ add-whole : tie.Need-add-whole
 add-whole c = search needs
 
 whole-requires : tie.Need-whole-requires
-whole-requires c κs = search needs
+whole-requires c κs = (c .before .before .pre .0 .lo .width, omega arith)
 
 at-most-requires : tie.Need-at-most-requires
 at-most-requires c κs =
     let a = c .before .before .before in
-    (normal-spelled 31 (a .args .x .hi) (a .pre .0 .hi .normal), subst (Spelled 31) (sym (c .whole .ensures)) (round-spelled false 31 _))
+    let v = a .args .v in
+    record { v = v; first = range-spelled (a .pre .0 .hi); second = subst (Spelled v) (sym (c .whole .ensures)) (round-spelled false v _) }
 
 returns-3 : tie.Need-returns-3
 returns-3 c =
@@ -39,4 +42,4 @@ returns-3 c =
 pub only-stretches-spec : {M : Type 1} → statement M
 only-stretches-spec =
     tie.close
-    (tie.spec add-if1 returns returns-2 add-whole whole-requires at-most-requires returns-3)
+    (tie.spec add-if1 add-if1-2 returns returns-2 add-whole whole-requires at-most-requires returns-3)

@@ -1,9 +1,10 @@
 -- `series::exponential::total` meets its contract. The loop's invariant: the state is the rule's term and sum to k. Assumes nothing.
 use mathlib.Core.Path.{_≡_, sym, _∙_}
-use Prim.Native.Nat.{_-_, _≤_}
+use Prim.Native.Nat.{suc, _-_, _≤_}
 use native.Mathlib.Omega.{arith}
 use borrow.Author.Needs.{needs}
 use lib.Dec.{lit≤}
+use lib.Pow.{pow-mono}
 use Rattle.bracket.specs.Rules.{ends}
 use Rattle.series.specs.Terms.{termsTo}
 use Rattle.series.proofs.ExponentialSteps.{term-held, sum-held, expTerm-first, expSum-first, total-last}
@@ -11,19 +12,20 @@ use Rattle.series.proofs.exponential.total.Statement.{statement}
 use Rattle.series.proofs.exponential.total.Tie as tie
 
 abbrev Inv-loop : tie.InvT-loop
-Inv-loop x s₀ k₀ s k = (k ≤ 256) × (s ≡ termsTo (ends x) k)
+Inv-loop v x s₀ k₀ s k = (k ≤ 256) × (s ≡ termsTo (suc v) (ends x) k)
 
 abbrev μ-loop : tie.MeasureT-loop
-μ-loop x s₀ k₀ s k = 256 - k
+μ-loop v x s₀ k₀ s k = 256 - k
 
 whole-requires : tie.Need-whole-requires Inv-loop μ-loop
-whole-requires c κs = lit≤ tt
+whole-requires c κs = (c .pre .0 .lo .width, lit≤ tt)
 
 loop-holds : tie.Need-loop-holds Inv-loop μ-loop
 loop-holds c =
     let X = ends (c .before .args .x) in
-    let e = c .whole .ensures ∙ sym (expTerm-first 32 X) in
-    let f = c .whole .ensures ∙ sym (expSum-first 32 X) in
+    let n = suc (c .before .args .v) in
+    let e = c .whole .ensures ∙ sym (expTerm-first n X) in
+    let f = c .whole .ensures ∙ sym (expSum-first n X) in
     (omega arith, λ i. record { term = e i; sum = f i })
 
 only-stretches-requires : tie.Need-only-stretches-requires Inv-loop μ-loop
@@ -38,7 +40,8 @@ stretched-requires : tie.Need-stretched-requires Inv-loop μ-loop
 stretched-requires c κs =
     let p = c .before .before .before .before .before .pre in
     let i = c .before .before .before .loop .inv in
-    (sum-held (p .1) (i .0) (i .1), omega arith)
+    let w = p .0 .lo .width in
+    (sum-held w (p .1) (i .0) (i .1), omega (arith, pow-mono {i = 31} (w .low)))
 
 returns : tie.Need-returns Inv-loop μ-loop
 returns c = c .stretched .ensures ∙ sym (c .before .before .only-stretches .ensures (c .before .if1 .taken))
@@ -60,16 +63,17 @@ loop-again c = (omega arith, c .one-more .ensures)
 add-last-requires : tie.Need-add-last-requires Inv-loop μ-loop
 add-last-requires c κs =
     let f = c .before .before .before .pre .1 in
+    let w = c .before .before .before .pre .0 .lo .width in
     let i = c .before .loop .inv in
-    let s = sum-held f (i .0) (i .1) in
-    let t = term-held f (i .0) (i .1) in
+    let s = sum-held w f (i .0) (i .1) in
+    let t = term-held w f (i .0) (i .1) in
     search needs
 
 returns-2 : tie.Need-returns-2 Inv-loop μ-loop
 returns-2 c =
     let X = ends (c .before .before .before .before .args .x) in
     let i = c .before .before .loop .inv in
-    total-last X (c .before .before .loop .k) (i .0) (c .before .loop-test .left) (i .1) (c .add-last .ensures)
+    total-last (suc (c .before .before .before .before .args .v)) X (c .before .before .loop .k) (i .0) (c .before .loop-test .left) (i .1) (c .add-last .ensures)
 
 pub total-spec : {M : Type 1} → statement M
 total-spec =

@@ -1,6 +1,6 @@
 -- `series::logarithm::ln_series` meets its contract. The loop's invariant: the state is the rule's power and sum to j. Assumes nothing.
 use mathlib.Core.Path.{_≡_, sym, _∙_}
-use Prim.Native.Nat.{_-_, _≤_}
+use Prim.Native.Nat.{suc, _-_, _≤_}
 use native.Mathlib.Omega.{arith}
 use native.Mathlib.Nat.{le-refl}
 use lib.Dec.{lit≤}
@@ -12,10 +12,10 @@ use Rattle.series.proofs.logarithm.ln_series.Statement.{statement}
 use Rattle.series.proofs.logarithm.ln_series.Tie as tie
 
 abbrev Inv-loop : tie.InvT-loop
-Inv-loop z square s₀ j₀ s j = (j ≤ 20) × (s ≡ powersTo z j)
+Inv-loop v z square s₀ j₀ s j = (j ≤ 20) × (s ≡ powersTo (suc v) z j)
 
 abbrev μ-loop : tie.MeasureT-loop
-μ-loop z square s₀ j₀ s j = 20 - j
+μ-loop v z square s₀ j₀ s j = 20 - j
 
 product-requires : tie.Need-product-requires Inv-loop μ-loop
 product-requires c κs = (c .pre .held, c .pre .held)
@@ -26,8 +26,9 @@ share-requires c κs = (c .before .pre .held, omega arith)
 loop-holds : tie.Need-loop-holds Inv-loop μ-loop
 loop-holds c =
     let z = c .before .before .args .z in
-    let e = sym (lnPower-first 32 z) in
-    let f = c .share .ensures ∙ sym (lnSum-first 32 z) in
+    let n = suc (c .before .before .args .v) in
+    let e = sym (lnPower-first n z) in
+    let f = c .share .ensures ∙ sym (lnSum-first n z) in
     (omega arith, λ i. record { power = e i; sum = f i })
 
 one-more-requires : tie.Need-one-more-requires Inv-loop μ-loop
@@ -47,37 +48,40 @@ share-requires-2 : tie.Need-share-requires-2 Inv-loop μ-loop
 share-requires-2 c κs =
     let i = c .before .loop .inv in
     let a = c .before .before .before .before .pre in
-    (power-held a 20 (le-refl 20) (last-power (c .before .before .before .before .args .z) (i .0) (c .loop-test .left) (i .1)), le-refl 20)
+    (power-held a 20 (le-refl 20) (last-power (suc (c .before .before .before .before .args .v)) (c .before .before .before .before .args .z) (i .0) (c .loop-test .left) (i .1)), le-refl 20)
 
 add-last-requires : tie.Need-add-last-requires Inv-loop μ-loop
 add-last-requires c κs =
     let i = c .before .before .loop .inv in
     let l = c .before .loop-test .left in
     let z = c .before .before .before .before .before .args .z in
+    let n = suc (c .before .before .before .before .before .args .v) in
     let a = c .before .before .before .before .before .pre in (
-      sum-held a 20 (le-refl 20) (last-sum z (i .0) l (i .1)),
-      quotient-held a 20 (le-refl 20) (last-quotient z (i .0) l (i .1) (c .share2 .ensures)),
+      sum-held a 20 (le-refl 20) (last-sum n z (i .0) l (i .1)),
+      quotient-held a 20 (le-refl 20) (last-quotient n z (i .0) l (i .1) (c .share2 .ensures)),
     )
 
 whole-requires : tie.Need-whole-requires Inv-loop μ-loop
-whole-requires c κs = lit≤ tt
+whole-requires c κs = (c .before .before .before .before .before .before .pre .held .lo .width, lit≤ tt)
 
 product-requires-2 : tie.Need-product-requires-2 Inv-loop μ-loop
 product-requires-2 c κs =
     let i = c .before .before .before .before .loop .inv in
     let l = c .before .before .before .loop-test .left in
     let z = c .before .before .before .before .before .before .before .args .z in
+    let n = suc (c .before .before .before .before .before .before .before .args .v) in
     let a = c .before .before .before .before .before .before .before .pre in (
-      held-as (c .whole .ensures) (whole-held 2 (lit≤ tt)),
-      total-held a (total-is z (i .0) l (i .1) (c .before .before .share2 .ensures) (c .before .add-last .ensures)),
+      held-as (c .whole .ensures) (whole-held (a .held .lo .width) 2 (lit≤ tt)),
+      total-held a (total-is n z (i .0) l (i .1) (c .before .before .share2 .ensures) (c .before .add-last .ensures)),
     )
 
 returns : tie.Need-returns Inv-loop μ-loop
 returns c =
     let i = c .before .before .before .before .before .loop .inv in
     let l = c .before .before .before .before .loop-test .left in
-    let z = c .before .before .before .before .before .before .before .before .args .z in
-    answer-is z (total-is z (i .0) l (i .1) (c .before .before .before .share2 .ensures) (c .before .before .add-last .ensures))
+    let b = c .before .before .before .before .before .before .before .before in
+    let z = b .args .z in
+    answer-is (b .pre .held .lo .width) z (total-is (suc (b .args .v)) z (i .0) l (i .1) (c .before .before .before .share2 .ensures) (c .before .before .add-last .ensures))
     (c .before .whole .ensures) (c .product2 .ensures)
 
 pub ln-series-spec : {M : Type 1} → statement M

@@ -1,6 +1,6 @@
 -- `series::logarithm::one_more` meets its contract: the product and the sum are the rule's next power and sum. Assumes nothing.
 use mathlib.Core.Path.{ap}
-use Prim.Native.Nat.{_+_}
+use Prim.Native.Nat.{suc, _+_}
 use native.Mathlib.Omega.{arith}
 use borrow.Author.Needs.{needs}
 use Rattle.series.specs.declared.logarithm.Powers.{Powers}
@@ -20,25 +20,27 @@ share-requires : tie.Need-share-requires
 share-requires c κs =
     let p = c .before .pre in
     let j = c .before .args .j in
-    (power-held (p .0) (j + 1) (omega arith) (power-next (c .before .args .z) j (p .3) (p .2) (c .product .ensures)), omega arith)
+    (power-held (p .0) (j + 1) (omega arith) (power-next (suc (c .before .args .v)) (c .before .args .z) j (p .3) (p .2) (c .product .ensures)), omega arith)
 
 sum-requires : tie.Need-sum-requires
 sum-requires c κs =
     let p = c .before .before .pre in
     let z = c .before .before .args .z in
+    let n = suc (c .before .before .args .v) in
     let j = c .before .before .args .j in
-    let e = power-next z j (p .3) (p .2) (c .before .product .ensures) in (
+    let e = power-next n z j (p .3) (p .2) (c .before .product .ensures) in (
       sum-held (p .0) j (omega arith) (ap (λ (s : Powers). s .sum) (p .3)),
-      quotient-held (p .0) (j + 1) (omega arith) (quotient-next z j (p .3) e (c .share .ensures)),
+      quotient-held (p .0) (j + 1) (omega arith) (quotient-next n z j (p .3) e (c .share .ensures)),
     )
 
 returns : tie.Need-returns
 returns c =
     let p = c .before .before .before .pre in
     let z = c .before .before .before .args .z in
+    let n = suc (c .before .before .before .args .v) in
     let j = c .before .before .before .args .j in
-    let e = power-next z j (p .3) (p .2) (c .before .before .product .ensures) in
-    let f = sum-next z j (p .3) (quotient-next z j (p .3) e (c .before .share .ensures)) (c .sum .ensures) in
+    let e = power-next n z j (p .3) (p .2) (c .before .before .product .ensures) in
+    let f = sum-next n z j (p .3) (quotient-next n z j (p .3) e (c .before .share .ensures)) (c .sum .ensures) in
     λ i. record { power = e i; sum = f i }
 
 pub one-more-spec : {M : Type 1} → statement M

@@ -1,10 +1,11 @@
 -- `series::ratio::ln_ratio` meets its contract: k times ln 2 and the series at z, with the k of the exact densities. Assumes nothing.
 use mathlib.Core.Path.{_≡_, sym, ap, _∙_, subst}
-use Prim.Native.Nat.{ℕ}
+use Prim.Native.Nat.{ℕ, suc}
 use native.Mathlib.Omega.{arith}
 use borrow.Author.Needs.{needs}
 use lib.Ieee.{Float}
 use Rattle.exact.specs.Fraction.{nat}
+use Rattle.sheet.specs.Range.{Width}
 use Rattle.doubles.specs.Double.{exactOf}
 use Rattle.doubles.specs.Ratio.{ratioExponent}
 use Rattle.bracket.specs.declared.Bracket.{Bracket}
@@ -24,16 +25,16 @@ use Rattle.series.proofs.ratio.ln_ratio.Tie as tie
 exponent : (l v : Float) → ℕ
 exponent l v = ratioExponent (exactOf l) (exactOf v)
 
-module _ {l v : Float} (p : Pair l v) {k : ℕ} (e : k ≡ exponent l v) where
-  r-at : {r : Bracket} → r ≡ ratioR 32 (exactOf l) (exactOf v) k → r ≡ ratioR 32 (exactOf l) (exactOf v) (exponent l v)
-  r-at f = f ∙ ap (ratioR 32 (exactOf l) (exactOf v)) e
+module _ {b : ℕ} (w : Width b) {l v : Float} (p : Pair l v) {k : ℕ} (e : k ≡ exponent l v) where
+  r-at : {r : Bracket} → r ≡ ratioR (suc b) (exactOf l) (exactOf v) k → r ≡ ratioR (suc b) (exactOf l) (exactOf v) (exponent l v)
+  r-at f = f ∙ ap (ratioR (suc b) (exactOf l) (exactOf v)) e
 
-  argument : {r z : Bracket} → r ≡ ratioR 32 (exactOf l) (exactOf v) k → z ≡ ratioZ 32 r → Argument z
+  argument : {r z : Bracket} → r ≡ ratioR (suc b) (exactOf l) (exactOf v) k → z ≡ ratioZ (suc b) r → Argument b z
   unfolding exponent
-  argument f g = subst Argument (sym (g ∙ ap (ratioZ 32) (r-at f))) (z-argument (exponent l v) (vapour-least p) (liquid-nonneg p) (exponent-largest p))
+  argument f g = subst (Argument b) (sym (g ∙ ap (ratioZ (suc b)) (r-at f))) (z-argument w (exponent l v) (vapour-least p) (liquid-nonneg p) (exponent-largest p))
 
-  whole-at : {w : Bracket} → w ≡ given 32 (nat k) → w ≡ given 32 (nat (exponent l v))
-  whole-at f = f ∙ ap (λ (n : ℕ). given 32 (nat n)) e
+  whole-at : {n : Bracket} → n ≡ given (suc b) (nat k) → n ≡ given (suc b) (nat (exponent l v))
+  whole-at f = f ∙ ap (λ (n : ℕ). given (suc b) (nat n)) e
 
 ratio-exponent-requires : tie.Need-ratio-exponent-requires
 ratio-exponent-requires c κs = search needs
@@ -46,18 +47,20 @@ unfolding exponent
 ratio-z-requires c κs =
     let p = c .before .before .pre in
     let a = c .before .before .args in
-    subst NearOne (sym (r-at p (c .before .ratio-exponent .ensures) (c .ratio-r .ensures))) (r-near (exponent (a .liquid) (a .vapour)) (vapour-least p) (exponent-largest p))
+    subst (NearOne (a .v)) (sym (r-at (p .0) (p .1) (c .before .ratio-exponent .ensures) (c .ratio-r .ensures)))
+    (r-near (p .0) (exponent (a .liquid) (a .vapour)) (vapour-least (p .1)) (exponent-largest (p .1)))
 
 ln-series-requires : tie.Need-ln-series-requires
 unfolding exponent
 ln-series-requires c κs =
-    argument (c .before .before .before .pre) (c .before .before .ratio-exponent .ensures) (c .before .ratio-r .ensures) (c .ratio-z .ensures)
+    argument (c .before .before .before .pre .0) (c .before .before .before .pre .1) (c .before .before .ratio-exponent .ensures) (c .before .ratio-r .ensures) (c .ratio-z .ensures)
 
 whole-requires : tie.Need-whole-requires
 whole-requires c κs =
-    let h = exponent-few (c .before .before .before .before .pre) in
+    let p = c .before .before .before .before .pre in
+    let h = exponent-few (p .1) in
     let e = c .before .before .before .ratio-exponent .ensures in
-    omega arith
+    (p .0, omega arith)
 
 ln-two-requires : tie.Need-ln-two-requires
 ln-two-requires c κs = search needs
@@ -65,33 +68,36 @@ ln-two-requires c κs = search needs
 product-requires : tie.Need-product-requires
 product-requires c κs =
     let k = c .before .before .before .before .before .ratio-exponent in
-    let h = exponent-few (c .before .before .before .before .before .before .pre) in
+    let p = c .before .before .before .before .before .before .pre in
+    let h = exponent-few (p .1) in
     let e = k .ensures in
-    (held-as (c .before .whole .ensures) (whole-held (k .result) (omega arith)), held-as (c .ln-two .ensures) lnTwo-held)
+    (held-as (c .before .whole .ensures) (whole-held (p .0) (k .result) (omega arith)), held-as (c .ln-two .ensures) (lnTwo-held (p .0)))
 
 sum-requires : tie.Need-sum-requires
 unfolding exponent
 sum-requires c κs =
-    let p = c .before .before .before .before .before .before .before .pre in
+    let w = c .before .before .before .before .before .before .before .pre .0 in
+    let p = c .before .before .before .before .before .before .before .pre .1 in
     let a = c .before .before .before .before .before .before .before .args in
     let e = c .before .before .before .before .before .before .ratio-exponent .ensures in
     let k = exponent (a .liquid) (a .vapour) in (
-      held-as (multiple-is k (exponent-few p) (whole-at p e (c .before .before .whole .ensures)) (c .before .ln-two .ensures) (c .product .ensures))
-          (multiple-held k (exponent-few p)),
+      held-as (multiple-is w k (exponent-few p) (whole-at w p e (c .before .before .whole .ensures)) (c .before .ln-two .ensures) (c .product .ensures))
+          (multiple-held w k (exponent-few p)),
       held-as (c .before .before .before .ln-series .ensures)
-          (series-held (argument p e (c .before .before .before .before .before .ratio-r .ensures) (c .before .before .before .before .ratio-z .ensures))),
+          (series-held (argument w p e (c .before .before .before .before .before .ratio-r .ensures) (c .before .before .before .before .ratio-z .ensures))),
     )
 
 returns : tie.Need-returns
 unfolding exponent
 returns c =
-    let p = c .before .before .before .before .before .before .before .before .pre in
+    let w = c .before .before .before .before .before .before .before .before .pre .0 in
+    let p = c .before .before .before .before .before .before .before .before .pre .1 in
     let a = c .before .before .before .before .before .before .before .before .args in
     let e = c .before .before .before .before .before .before .before .ratio-exponent .ensures in
     let k = exponent (a .liquid) (a .vapour) in
-    ln-is (exactOf (a .liquid)) (exactOf (a .vapour))
-    (multiple-is k (exponent-few p) (whole-at p e (c .before .before .before .whole .ensures)) (c .before .before .ln-two .ensures) (c .before .product .ensures))
-    (lnR-is (exactOf (a .liquid)) (exactOf (a .vapour)) k (r-at p e (c .before .before .before .before .before .before .ratio-r .ensures))
+    ln-is (suc (a .v)) (exactOf (a .liquid)) (exactOf (a .vapour))
+    (multiple-is w k (exponent-few p) (whole-at w p e (c .before .before .before .whole .ensures)) (c .before .before .ln-two .ensures) (c .before .product .ensures))
+    (lnR-is (suc (a .v)) (exactOf (a .liquid)) (exactOf (a .vapour)) k (r-at w p e (c .before .before .before .before .before .before .ratio-r .ensures))
     (c .before .before .before .before .before .ratio-z .ensures) (c .before .before .before .before .ln-series .ensures))
     (c .sum .ensures)
 

@@ -1,5 +1,4 @@
 -- `series::ratio::ratio_z` meets its contract: the two ends' differences and sums with 1, and their quotient. Assumes nothing.
-use borrow.Author.Needs.{needs}
 use lib.Dec.{lit≤}
 use Rattle.bracket.proofs.Operands.{whole-held}
 use Rattle.series.proofs.ExponentialSteps.{held-as}
@@ -8,13 +7,13 @@ use Rattle.series.proofs.ratio.ratio_z.Statement.{statement}
 use Rattle.series.proofs.ratio.ratio_z.Tie as tie
 
 whole-requires : tie.Need-whole-requires
-whole-requires c κs = search needs
+whole-requires c κs = (c .pre .held .lo .width, lit≤ tt)
 
 difference-requires : tie.Need-difference-requires
-difference-requires c κs = (c .before .pre .held, held-as (c .whole .ensures) (whole-held 1 (lit≤ tt)))
+difference-requires c κs = (c .before .pre .held, held-as (c .whole .ensures) (whole-held (c .before .pre .held .lo .width) 1 (lit≤ tt)))
 
 sum-requires : tie.Need-sum-requires
-sum-requires c κs = (c .before .before .pre .held, held-as (c .before .whole .ensures) (whole-held 1 (lit≤ tt)))
+sum-requires c κs = (c .before .before .pre .held, held-as (c .before .whole .ensures) (whole-held (c .before .before .pre .held .lo .width) 1 (lit≤ tt)))
 
 quotient-requires : tie.Need-quotient-requires
 quotient-requires c κs =

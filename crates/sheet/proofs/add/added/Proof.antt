@@ -2,6 +2,7 @@
 use mathlib.Core.Path.{sym, _∙_}
 use Prim.Native.Nat.{_+_}
 use native.Mathlib.Omega.{arith}
+use lib.Pow.{pow-pos}
 use Rattle.sheet.specs.Range.{extent}
 use Rattle.sheet.proofs.Addends.{pair}
 use Rattle.sheet.proofs.Sums.{place-add}
@@ -10,24 +11,24 @@ use Rattle.sheet.proofs.add.added.Statement.{statement}
 use Rattle.sheet.proofs.add.added.Tie as tie
 
 aligned-requires : tie.Need-aligned-requires
-aligned-requires c κs = (c .pre .0 .some, pair (c .args .a) (c .args .b) (c .pre .0) .place)
+aligned-requires c κs = (c .pre .0 .some, pair (c .args .v) (c .args .a) (c .args .b) (c .pre .0) .place)
 
-add-rounded : tie.Need-add-rounded
-add-rounded c =
-    let p = pair (c .before .args .a) (c .before .args .b) (c .before .pre .0) in
-    omega (arith, p .small, p .small₂, c .aligned .ensures .small)
+add-topped : tie.Need-add-topped
+add-topped c =
+    let p = pair (c .before .args .v) (c .before .args .a) (c .before .args .b) (c .before .pre .0) in
+    omega (arith, p .small, p .small₂, p .room, c .aligned .ensures .small)
 
-rounded-requires : tie.Need-rounded-requires
-rounded-requires c κs =
-    let p = pair (c .before .args .a) (c .before .args .b) (c .before .pre .0) in
-    record { full = λ _ _. omega (arith, p .full); room = omega (arith, p .high) }
+topped-requires : tie.Need-topped-requires
+topped-requires c κs =
+    let p = pair (c .before .args .v) (c .before .args .a) (c .before .args .b) (c .before .pre .0) in
+    (c .before .pre .0 .first .width, record { full = λ _ _. omega (arith, p .full); room = omega (arith, p .high) }, omega (arith, p .full, pow-pos (c .before .args .v)), omega (arith, p .low))
 
 returns : tie.Need-returns
 returns c =
     let k = c .before .before .args in
     let x = c .before .aligned in
-    c .rounded .ensures (extent (k .a) + extent (k .b)) 1 (place-add (k .a .m) (x .result .m) (x .result .sticky) (k .a .e) (extent (k .b)) (x .ensures .found))
-    ∙ sym (sum-same (k .up) 31 (k .a) (k .b) (c .before .before .pre .1))
+    c .topped .ensures (extent (k .a) + extent (k .b)) 1 (place-add (k .a .m) (x .result .m) (x .result .sticky) (k .a .e) (extent (k .b)) (x .ensures .found))
+    ∙ sym (sum-same (k .up) (k .v) (k .a) (k .b) (c .before .before .pre .1))
 
 pub added-spec : {M : Type 1} → statement M
-added-spec = tie.close (tie.spec aligned-requires add-rounded rounded-requires returns)
+added-spec = tie.close (tie.spec aligned-requires add-topped topped-requires returns)

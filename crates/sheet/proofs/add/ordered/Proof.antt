@@ -42,7 +42,7 @@ lower a b n h = omega arith
 taken-requires : tie.Need-taken-requires
 taken-requires c κs =
     let k = c .before .before .before .before in
-    (k .pre, other (k .args .a .neg) (k .args .b .neg) (c .before .if1 .left), lower (k .args .a .e) (k .args .b .e) (c .if2 .left) (pair (k .args .a) (k .args .b) (k .pre) .place))
+    (k .pre, other (k .args .a .neg) (k .args .b .neg) (c .before .if1 .left), lower (k .args .a .e) (k .args .b .e) (c .if2 .left) (pair (k .args .v) (k .args .a) (k .args .b) (k .pre) .place))
 
 returns-3 : tie.Need-returns-3
 returns-3 c = search needs

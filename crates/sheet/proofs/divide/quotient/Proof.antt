@@ -1,79 +1,93 @@
 -- `sheet::divide::quotient` meets its contract. Assumes nothing.
 use mathlib.Core.Path.{_≡_, sym, _∙_}
 use mathlib.Core.Bool.{false}
-use Prim.Native.Nat.{_+_, _-_, _*_, _/_, _^_, _≤_, _<_}
-use native.Mathlib.Nat.{le-div-iff-mul-le}
+use Prim.Native.Nat.{ℕ, suc, _+_, _-_, _*_, _^_, _≤_, _<_}
 use native.Mathlib.Omega.{arith}
 use Rattle.exact.specs.Fraction.{nat, _≺_}
 use Rattle.sheet.specs.declared.Sheet.{Sheet}
-use Rattle.sheet.specs.Number.{bias, value}
+use Rattle.sheet.specs.Number.{bias, value, Digits}
 use Rattle.sheet.specs.Range.{InRange}
 use Rattle.sheet.proofs.Live.{bias-is, live}
-use Rattle.sheet.proofs.Places.{place-div}
+use Rattle.sheet.proofs.Divisions.{quotes-place, shared-digits}
 use Rattle.sheet.proofs.Operations.{quotient-is, quotient-zero, above-zero}
 use Rattle.sheet.proofs.divide.quotient.Statement.{statement}
 use Rattle.sheet.proofs.divide.quotient.Tie as tie
 
-record Ranges (a b : Sheet) : Type 0 where
+record Ranges (v : ℕ) (a b : Sheet) : Type 0 where
   plain : b .neg ≡ false
   pos : 0 < b .m
-  small : a .m < 2 ^ 32
-  full : 2 ^ 31 ≤ a .m * 2 ^ 32 / b .m
+  first : Digits v (a .m)
+  second : Digits v (b .m)
   high : a .e ≤ 300000
-  low : b .e ≤ a .e + 262112
-  place : a .e + 262112 - b .e + 32 + b .e ≡ a .e + bias
+  low : b .e + v ≤ a .e + 262143
+  few : v ≤ 52
+  place : a .e + 262143 - v - b .e + suc v + b .e ≡ a .e + bias
 
-ranges : (a b : Sheet) → (InRange a × InRange b) × (nat 0 ≺ value b) → (a .m ≡ 0 → ⊥) → Ranges a b
-ranges a b h p =
+ranges : (v : ℕ) (a b : Sheet) → (InRange v a × InRange v b) × (nat 0 ≺ value b) → (a .m ≡ 0 → ⊥) → Ranges v a b
+ranges v a b h p =
     let k = above-zero b (h .1) in
-    let x = live 31 20000 20000 a (h .0 .0) p in
-    let y = live 31 20000 20000 b (h .0 .1) (λ z. omega (arith, k .1)) in
+    let w = h .0 .0 .width in
+    let x = live v 20000 20000 a (h .0 .0 .within) p in
+    let y = live v 20000 20000 b (h .0 .1 .within) (λ z. omega (arith, k .1)) in
     let z = bias-is in
     record {
       plain = k .0;
       pos = k .1;
-      small = x .small;
-      full = le-div-iff-mul-le (k .1) .1 (let t : 2 ^ 31 * b .m ≤ a .m * 2 ^ 32 = omega (arith, x .full, y .small) in t);
+      first = record { low = x .full; high = x .small };
+      second = record { low = y .full; high = y .small };
       high = omega (arith, x .high);
-      low = omega (arith, x .low, y .high);
-      place = omega (arith, x .low, y .high);
+      low = omega (arith, x .low, y .high, w .high);
+      few = w .high;
+      place = omega (arith, x .low, y .high, w .high);
     }
 
 returns : tie.Need-returns
 returns c =
-    let k = above-zero (c .before .args .b) (c .before .pre .1) in
-    sym (quotient-zero (c .before .args .up) 31 (c .before .args .a) (c .before .args .b) (k .0) (k .1) (c .if1 .taken))
+    let s = c .before in
+    let k = above-zero (s .args .b) (s .pre .1) in
+    sym (quotient-zero (s .args .up) (s .args .v) (s .args .a) (s .args .b) (k .0) (k .1) (c .if1 .taken))
 
-at : (c : tie.Else1) → Ranges (c .before .args .a) (c .before .args .b)
-at c = ranges (c .before .args .a) (c .before .args .b) (c .before .pre) (c .if1 .left)
+at : (c : tie.Else1) → Ranges (c .before .args .v) (c .before .args .a) (c .before .args .b)
+at c = ranges (c .before .args .v) (c .before .args .a) (c .before .args .b) (c .before .pre) (c .if1 .left)
 
-mul-n : tie.Need-mul-n
-mul-n c = omega (arith, at c .small)
+shared-requires : tie.Need-shared-requires
+shared-requires c κs = let r = at c in (c .before .pre .0 .0 .width, r .first, r .second)
 
-div-rounded : tie.Need-div-rounded
-div-rounded c = at c .pos
+add-trimmed : tie.Need-add-trimmed
+add-trimmed c = omega (arith, at (c .before) .high)
 
-rem-rounded : tie.Need-rem-rounded
-rem-rounded c = at c .pos
+sub-trimmed : tie.Need-sub-trimmed
+sub-trimmed c = omega (arith, at (c .before) .few)
 
-add-rounded : tie.Need-add-rounded
-add-rounded c = omega (arith, at c .high)
+sub-trimmed-2 : tie.Need-sub-trimmed-2
+sub-trimmed-2 c = omega (arith, at (c .before) .low)
 
-sub-rounded : tie.Need-sub-rounded
-sub-rounded c = at c .low
-
-rounded-requires : tie.Need-rounded-requires
-rounded-requires c κs = record { full = λ _ _. at c .full; room = omega (arith, at c .high) }
+trimmed-requires : tie.Need-trimmed-requires
+trimmed-requires c κs =
+    let s = c .before .before in
+    let k = s .args in
+    let r = at (c .before) in
+    let d = shared-digits (k .v) (k .a .m) (k .b .m) (c .shared .result) (c .shared .ensures) (r .first) (r .second) in
+    (s .pre .0 .0 .width, d .0, d .1, omega (arith, r .high))
 
 returns-2 : tie.Need-returns-2
 returns-2 c =
-    let k = c .before .before .args in
-    let r = at (c .before) in
-    let e = k .a .e + 262112 - k .b .e in
-    c .rounded .ensures (k .a .m * 2 ^ 32 * 2 ^ e) (k .b .m) (place-div (k .a .m * 2 ^ 32) (k .b .m) e (r .pos))
-    ∙ sym (quotient-is (k .up) 31 (k .a) (k .b) e 32 (r .plain) (r .pos) (r .place))
+    let k = c .before .before .before .args in
+    let r = at (c .before .before) in
+    let x = c .before .shared in
+    let e = k .a .e + 262143 - k .v - k .b .e in
+    let n = k .a .m * 2 ^ suc (k .v) in
+    c .trimmed .ensures (n * 2 ^ e) (k .b .m) (quotes-place n (k .b .m) e (x .result) (x .ensures))
+    ∙ sym (quotient-is (k .up) (k .v) (k .a) (k .b) e (suc (k .v)) (r .plain) (r .pos) (r .place))
 
 pub quotient-spec : {M : Type 1} → statement M
 quotient-spec =
     tie.close
-    (tie.spec returns mul-n div-rounded rem-rounded add-rounded sub-rounded rounded-requires returns-2)
+    (tie.spec
+    returns
+    shared-requires
+    add-trimmed
+    sub-trimmed
+    sub-trimmed-2
+    trimmed-requires
+    returns-2)

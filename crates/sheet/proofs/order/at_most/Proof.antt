@@ -26,7 +26,7 @@ returns-3 : tie.Need-returns-3
 unfolding value
 returns-3 c =
     let a = c .before .before .args in
-    sym (rw (c .before .if1 .left, c .if3 .taken) (leq-back (extent (a .a)) (extent (a .b)) (spelled-extent 31 (a .b) (c .before .before .pre .1) (c .if3 .taken))))
+    sym (rw (c .before .if1 .left, c .if3 .taken) (leq-back (extent (a .a)) (extent (a .b)) (spelled-extent (c .before .before .pre .v) (a .b) (c .before .before .pre .second) (c .if3 .taken))))
 
 not-above-requires-2 : tie.Need-not-above-requires-2
 not-above-requires-2 c κs = search needs

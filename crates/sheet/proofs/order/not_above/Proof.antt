@@ -11,12 +11,12 @@ use Rattle.sheet.proofs.order.not_above.Tie as tie
 returns : tie.Need-returns
 returns c =
     let a = c .before .args in
-    sym (le-leb (a .am * 2 ^ a .ae) (a .bm * 2 ^ a .be) (le-of-lt (lower-place 31 (a .am) (a .ae) (a .bm) (a .be) (c .before .pre .0 .small) (c .before .pre .1) (c .if1 .taken))))
+    sym (le-leb (a .am * 2 ^ a .ae) (a .bm * 2 ^ a .be) (le-of-lt (lower-place (c .before .pre .v) (a .am) (a .ae) (a .bm) (a .be) (c .before .pre .first .small) (c .before .pre .second) (c .if1 .taken))))
 
 returns-2 : tie.Need-returns-2
 returns-2 c =
     let a = c .before .before .args in
-    sym (lt-leb (a .am * 2 ^ a .ae) (a .bm * 2 ^ a .be) (lower-place 31 (a .bm) (a .be) (a .am) (a .ae) (c .before .before .pre .1 .small) (c .before .before .pre .0) (c .if2 .taken)))
+    sym (lt-leb (a .am * 2 ^ a .ae) (a .bm * 2 ^ a .be) (lower-place (c .before .before .pre .v) (a .bm) (a .be) (a .am) (a .ae) (c .before .before .pre .second .small) (c .before .before .pre .first) (c .if2 .taken)))
 
 returns-3 : tie.Need-returns-3
 returns-3 c =

@@ -1,43 +1,68 @@
 -- `sheet::place::next` meets its contract. Assumes nothing.
-use mathlib.Core.Path.{_≡_, sym, ap, _∙_}
+use mathlib.Core.Path.{_≡_, sym, ap, ap₂, _∙_}
 use mathlib.Core.Logic.{⊎-elim}
 use mathlib.Core.Bool.{Bool, true}
-use Prim.Native.Nat.{ℕ, _+_, _-_, _^_, _≤_, _<_}
+use Prim.Native.Nat.{ℕ, suc, _+_, _*_, _/_, _^_, _≤_, _<_}
 use native.Mathlib.Omega.{arith}
 use borrow.Author.Needs.{needs}
+use lib.Pow.{pow-pos, shl-shr}
 use Rattle.sheet.specs.declared.Sheet.{Sheet}
 use Rattle.sheet.specs.Magnitude.{finish}
 use Rattle.sheet.specs.Number.{signed}
-use Rattle.sheet.specs.Steps.{Carried}
+use Rattle.sheet.specs.Range.{Width}
 use Rattle.sheet.proofs.Gaps.{le-or-lt}
+use Rattle.sheet.proofs.Live.{width-room}
+use Rattle.sheet.proofs.Carries.{none-above, one-above, above-few, cut-plain, cut-carry}
 use Rattle.sheet.proofs.Rounding.{next-carry, next-plain}
 use Rattle.sheet.proofs.Signed.{signed-pos}
 use Rattle.sheet.proofs.place.next.Statement.{statement}
 use Rattle.sheet.proofs.place.next.Tie as tie
 
-is-next : (neg : Bool) (m e : ℕ) (r : Sheet) → m < 2 ^ 32 → Carried neg (m + 1) e r → r ≡ signed neg (finish true true 32 (record { m = m; e = e }))
-unfolding finish
-is-next neg m e r h k = ⊎-elim full short (le-or-lt (2 ^ 32) (m + 1))
-  where
-    full : 2 ^ 32 ≤ m + 1 → r ≡ signed neg (finish true true 32 (record { m = m; e = e }))
-    full l =
-        let q : m + 1 ≡ 2 ^ 32 = omega arith in
-        k .carry l ∙ ap (λ (n : ℕ). record { neg = neg; m = n; e = e + 1 }) (let d : m + 1 - 2 ^ 31 ≡ 2147483648 = omega arith in d)
-        ∙ sym (ap (signed neg) (next-carry 32 m e q) ∙ signed-pos neg 2147483648 (e + 1) (λ z. omega arith))
+half : (v : ℕ) → 2 ^ suc v / 2 ≡ 2 ^ v
+half v = ap (λ (x : ℕ). x / 2) (let h : 2 ^ suc v ≡ 2 ^ v * 2 ^ 1 = omega arith in h) ∙ shl-shr (2 ^ v) 1
 
-    short : m + 1 < 2 ^ 32 → r ≡ signed neg (finish true true 32 (record { m = m; e = e }))
-    short l = k .plain l ∙ sym (ap (signed neg) (next-plain 32 m e (λ z. omega arith)) ∙ signed-pos neg (m + 1) e (λ z. omega arith))
+module _ {v : ℕ} (w : Width v) (neg : Bool) (m e : ℕ) (h : m < 2 ^ suc v) where
+  few : m + 1 < 2 ^ suc (suc v)
+  few = omega (arith, pow-pos v)
 
-add-carried : tie.Need-add-carried
-add-carried c = search needs
+  abbrev made : ℕ → ℕ → Sheet
+  made n f = record { neg = neg; m = n; e = f }
 
-carried-requires : tie.Need-carried-requires
-carried-requires c κs = search needs
+  is-next : made ((m + 1) / 2 ^ ((m + 1) / 2 ^ (v + 1))) (e + (m + 1) / 2 ^ (v + 1)) ≡ signed neg (finish true true (suc v) (record { m = m; e = e }))
+  unfolding finish
+  is-next = ⊎-elim full short (le-or-lt (2 ^ suc v) (m + 1))
+    where
+      full : 2 ^ suc v ≤ m + 1 → made ((m + 1) / 2 ^ ((m + 1) / 2 ^ (v + 1))) (e + (m + 1) / 2 ^ (v + 1)) ≡ signed neg (finish true true (suc v) (record { m = m; e = e }))
+      full l =
+          let q : m + 1 ≡ 2 ^ suc v = omega arith in
+          ap₂ made (cut-carry w (m + 1) few l ∙ ap (λ (n : ℕ). n / 2) q ∙ half v) (ap (λ (c : ℕ). e + c) (one-above w (m + 1) few l))
+          ∙ sym (ap (signed neg) (next-carry (suc v) m e q ∙ rw (half v)) ∙ signed-pos neg (2 ^ v) (e + 1) (λ z. omega (arith, pow-pos v)))
+
+      short : m + 1 < 2 ^ suc v → made ((m + 1) / 2 ^ ((m + 1) / 2 ^ (v + 1))) (e + (m + 1) / 2 ^ (v + 1)) ≡ signed neg (finish true true (suc v) (record { m = m; e = e }))
+      short l =
+          ap₂ made (cut-plain w (m + 1) few l) (ap (λ (c : ℕ). e + c) (none-above w (m + 1) few l) ∙ omega arith)
+          ∙ sym (ap (signed neg) (next-plain (suc v) m e (λ z. omega arith)) ∙ signed-pos neg (m + 1) e (λ z. omega arith))
+
+above : (c : tie.Start) → (c .args .m + 1) / 2 ^ (c .args .v + 1) ≤ 1
+above c = above-few (c .pre .0) (c .args .m + 1) (few (c .pre .0) (c .args .neg) (c .args .m) (c .args .e) (c .pre .1))
+
+add-n : tie.Need-add-n
+add-n c = omega (arith, c .pre .1, width-room (c .pre .0))
+
+add-d : tie.Need-add-d
+add-d c = search needs
+
+shr-d : tie.Need-shr-d
+shr-d c = search needs
+
+shr-t7 : tie.Need-shr-t7
+shr-t7 c = omega (arith, above c)
+
+add-t8 : tie.Need-add-t8
+add-t8 c = omega (arith, above c)
 
 returns : tie.Need-returns
-returns c =
-    let k = c .before .args in
-    is-next (k .neg) (k .m) (k .e) (c .carried .result) (c .before .pre .0) (c .carried .ensures)
+returns c = is-next (c .pre .0) (c .args .neg) (c .args .m) (c .args .e) (c .pre .1)
 
 pub next-spec : {M : Type 1} → statement M
-next-spec = tie.close (tie.spec add-carried carried-requires returns)
+next-spec = tie.close (tie.spec add-n add-d shr-d shr-t7 add-t8 returns)

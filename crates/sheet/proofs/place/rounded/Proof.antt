@@ -1,9 +1,6 @@
 -- `sheet::place::rounded` meets its contract: the digits of the spelling at their place settle the rounding. Assumes nothing.
-use mathlib.Core.Path.{sym, ap, _∙_}
 use borrow.Author.Needs.{needs}
-use Rattle.sheet.specs.Number.{signed}
-use Rattle.sheet.specs.Round.{away}
-use Rattle.sheet.proofs.Places.{round-place}
+use Rattle.sheet.proofs.Finishing.{rounds-kept}
 use Rattle.sheet.proofs.place.rounded.Statement.{statement}
 use Rattle.sheet.proofs.place.rounded.Tie as tie
 
@@ -14,12 +11,10 @@ finished-requires : tie.Need-finished-requires
 finished-requires c κs = search needs
 
 returns : tie.Need-returns
-returns c num den p =
+returns c =
     let a = c .before .before .args in
     let f = c .before .normalised .ensures in
-    c .finished .ensures
-    ∙ ap (signed (a .neg))
-    (sym (round-place (away (a .up) (a .neg)) 31 (c .before .normalised .result .sticky) (record { small = f .small; full = f .full }) (f .keeps num den p)))
+    rounds-kept (a .up) (a .neg) (a .v) (record { m = a .m; sticky = a .sticky; e = a .e }) (c .before .normalised .result) (c .finished .result) (f .keeps) (record { small = f .small; full = f .full }) (c .finished .ensures)
 
 pub rounded-spec : {M : Type 1} → statement M
 rounded-spec = tie.close (tie.spec normalised-requires finished-requires returns)

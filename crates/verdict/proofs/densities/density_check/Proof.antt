@@ -1,13 +1,29 @@
 -- `verdict::densities::density_check` meets its contract. Assumes nothing.
-use mathlib.Core.Path.{refl, sym, _∙_}
+use Prim.Native.Nat.{ℕ}
+use mathlib.Core.Path.{_≡_, refl, sym, ap, _∙_}
+use mathlib.Core.Bool.{true}
+use native.Mathlib.Omega.{arith}
 use borrow.Author.Needs.{needs}
+use Rattle.doubles.specs.Double.{exactOf}
+use Rattle.equation.specs.Rules.{pressure}
 use Rattle.term.proofs.Answers.{answer-sound}
-use Rattle.verdict.specs.declared.Answer.the-variants.{Refused}
-use Rattle.verdict.specs.Rules.{densityAnswer}
+use Rattle.verdict.specs.declared.Answer.the-variants.{Accepted, Refused}
+use Rattle.verdict.specs.Steps.{firstFailing}
+use Rattle.verdict.specs.Rules.{soundWidth, handedOut, densityInputs, densityAnswer}
+use Rattle.verdict.proofs.Order.{fails-at, on-pass}
+use Rattle.verdict.proofs.Tests.{passed, failed}
 use Rattle.verdict.proofs.HandedOut.{zeros-numbers}
 use Rattle.verdict.proofs.Tables.{on-length, on-broken, on-sound}
+use Rattle.verdict.proofs.EitherWidth.{one-less}
 use Rattle.verdict.proofs.densities.density_check.Statement.{statement}
 use Rattle.verdict.proofs.densities.density_check.Tie as tie
+
+sound-width-requires : tie.Need-sound-width-requires
+sound-width-requires c κs = search needs
+
+returns : tie.Need-returns
+unfolding densityAnswer
+returns c = (sym (fails-at 0 _ _ (failed (c .before .sound-width .ensures) (c .if1 .taken))), (zeros-numbers, refl))
 
 check-table-requires : tie.Need-check-table-requires
 check-table-requires c κs = search needs
@@ -21,27 +37,57 @@ enum-known-place c = search needs
 enum-told-2 : tie.Need-enum-told-2
 enum-told-2 c = search needs
 
-screened-requires : tie.Need-screened-requires
-screened-requires c κs = answer-sound _ _ (sym (c .before .before .check-table .ensures .0) ∙ c .enum-told2 .given .1) .0
+-- the width has passed
+wide : (c : tie.Else1) → soundWidth (c .before .before .before .args .width) ≡ true
+wide c = passed (c .before .sound-width .ensures) (c .if1 .left)
 
-returns : tie.Need-returns
-unfolding densityAnswer
-returns c =
-    (on-length Refused _ _ _ (sym (c .before .before .check-table .ensures .0) ∙ c .enum-told .given .1), (zeros-numbers, refl))
+sub-screened : tie.Need-sub-screened
+sub-screened c = omega (arith, one-less _ (wide (c .before .before .before)) .1)
+
+screened-requires : tie.Need-screened-requires
+screened-requires c κs = (one-less _ (wide (c .before .before .before)) .0, answer-sound _ _ (sym (c .before .before .check-table .ensures .0) ∙ c .enum-told2 .given .1) .0)
 
 returns-2 : tie.Need-returns-2
 unfolding densityAnswer
 returns-2 c = (
-  on-broken Refused _ _ _ _ (sym (c .before .before .before .check-table .ensures .0) ∙ c .before .place .given .1),
+  on-length Refused _ _ _ (sym (c .before .before .check-table .ensures .0) ∙ c .enum-told .given .1) ∙ sym (on-pass _ _ _ (wide (c .before .before .before))),
   (zeros-numbers, refl),
 )
 
 returns-3 : tie.Need-returns-3
 unfolding densityAnswer
-returns-3 c =
-    let sound = answer-sound _ _ (sym (c .before .before .before .check-table .ensures .0) ∙ c .before .enum-told2 .given .1) .0 in
-    (c .screened .ensures .0 ∙ sym (on-sound Refused _ _ _ sound), (c .screened .ensures .1, refl))
+returns-3 c = (
+  on-broken Refused _ _ _ _ (sym (c .before .before .before .check-table .ensures .0) ∙ c .before .place .given .1) ∙ sym (on-pass _ _ _ (wide (c .before .before .before .before))),
+  (zeros-numbers, refl),
+)
+
+returns-4 : tie.Need-returns-4
+unfolding densityAnswer
+returns-4 c =
+    let a = c .before .before .before .before .before .before .before .args in
+    let p = wide (c .before .before .before .before) in
+    let table = a .table .now in
+    let t = a .state .temperature in
+    let rho = a .state .density in
+    let sound = answer-sound _ _ (sym (c .before .before .before .check-table .ensures .0) ∙ c .before .enum-told2 .given .1) .0 in (
+      c .screened .ensures .0
+          ∙ ap (λ (n : ℕ). firstFailing (densityInputs n table t rho (a .target) (a .tolerance)) (Accepted (handedOut (pressure n table (exactOf t) (exactOf rho))))) (one-less (a .width) p .1)
+          ∙ sym (on-pass _ _ _ p ∙ on-sound Refused _ _ _ sound),
+      (c .screened .ensures .1, refl),
+    )
 
 pub density-check-spec : {M : Type 1} → statement M
 density-check-spec =
-    tie.close (tie.spec check-table-requires enum-told enum-known-place enum-told-2 screened-requires returns returns-2 returns-3)
+    tie.close
+    (tie.spec
+    sound-width-requires
+    returns
+    check-table-requires
+    enum-told
+    enum-known-place
+    enum-told-2
+    sub-screened
+    screened-requires
+    returns-2
+    returns-3
+    returns-4)

@@ -51,7 +51,7 @@ phase-of-requires : tie.Need-phase-of-requires
 phase-of-requires c κs =
     let hot = holds (passed (c .before .before .before .before .before .before .before .accepts-temperature .ensures) (c .before .before .before .before .before .before .if1 .left)) in
     let dense = holds (passed (c .before .before .before .before .before .accepts-density .ensures) (c .before .before .before .before .if2 .left)) in
-    record { table-sound = c .before .before .before .before .before .before .before .before .before .pre; temperature = hot; density = dense }
+    record { width = c .before .before .before .before .before .before .before .before .before .pre .0; table-sound = c .before .before .before .before .before .before .before .before .before .pre .1; temperature = hot; density = dense }
 
 target-gap-of-requires : tie.Need-target-gap-of-requires
 unfolding phaseOf
@@ -59,7 +59,8 @@ target-gap-of-requires c κs =
     let hot = holds (passed (c .before .before .before .before .before .before .before .before .accepts-temperature .ensures) (c .before .before .before .before .before .before .before .if1 .left)) in
     let dense = holds (passed (c .before .before .before .before .before .before .accepts-density .ensures) (c .before .before .before .before .before .if2 .left)) in
     let aim = holds (passed (c .before .before .before .before .accepts-target .ensures) (c .before .before .before .if3 .left)) in
-    (rw (c .phase-of .ensures) (pressure-ready _ (c .before .before .before .before .before .before .before .before .before .before .pre) _ hot _ dense), aim)
+    let p = c .before .before .before .before .before .before .before .before .before .before .pre in
+    (rw (c .phase-of .ensures) (pressure-ready (p .0) _ (p .1) _ hot _ dense), aim)
 
 worked-requires : tie.Need-worked-requires
 unfolding phaseOf targetGap
@@ -68,10 +69,11 @@ worked-requires c κs =
     let dense = holds (passed (c .before .before .before .before .before .before .before .accepts-density .ensures) (c .before .before .before .before .before .before .if2 .left)) in
     let aim = holds (passed (c .before .before .before .before .before .accepts-target .ensures) (c .before .before .before .before .if3 .left)) in
     let near = holds (passed (c .before .before .before .accepts-tolerance .ensures) (c .before .before .if4 .left)) in
-    let fit = subst T (sym (c .before .before .before .before .before .before .before .before .before .before .before .good .1 .1 .1 .0 .1)) tt in
+    let fit = subst T (sym (c .before .before .before .before .before .before .before .before .before .before .before .good .1 .1 .1 .1 .0 .1)) tt in
+    let p = c .before .before .before .before .before .before .before .before .before .before .before .pre in
     rw (c .target-gap-of .ensures, c .before .phase-of .ensures) (
-      (pressure-handy _ (c .before .before .before .before .before .before .before .before .before .before .before .pre) _ hot _ dense, targetGap-handy _ (c .before .before .before .before .before .before .before .before .before .before .before .pre) _ hot _ dense _ fit aim),
-      (stiffness-handy _ (c .before .before .before .before .before .before .before .before .before .before .before .pre) _ hot _ dense, tolerance-finite _ near),
+      (pressure-handy (p .0) _ (p .1) _ hot _ dense, targetGap-handy (p .0) _ (p .1) _ hot _ dense _ fit aim),
+      (stiffness-handy (p .0) _ (p .1) _ hot _ dense, tolerance-finite _ near),
     )
 
 returns-5 : tie.Need-returns-5

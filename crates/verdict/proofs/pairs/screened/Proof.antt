@@ -55,7 +55,8 @@ worked-requires c κs =
     let near = both (acceptedTolerance (a .pressure-tolerance)) (acceptedTolerance (a .gibbs-tolerance)) (passed (c .before .before .before .accepts-tolerances .ensures) (c .before .before .if3 .left)) in
     let apart = sides (a .liquid) (a .vapour) (passed (c .before .on-sides .ensures) (c .if4 .left)) in
     record {
-      table-sound = c .before .before .before .before .before .before .before .before .before .pre;
+      width = c .before .before .before .before .before .before .before .before .before .pre .0;
+      table-sound = c .before .before .before .before .before .before .before .before .before .pre .1;
       temperature = above-triple-point (a .t) (passed (c .before .before .before .before .before .before .before .accepts-pair-temperature .ensures) (c .before .before .before .before .before .before .if1 .left));
       liquid-density = holds (d .0);
       vapour-density = holds (d .1);

@@ -10,19 +10,19 @@ use Rattle.verdict.proofs.pairs.worked.Tie as tie
 phase-of-requires : tie.Need-phase-of-requires
 phase-of-requires c κs =
     let p = c .before .pre in
-    record { table-sound = p .table-sound; temperature = p .temperature; density = p .liquid-density }
+    record { width = p .width; table-sound = p .table-sound; temperature = p .temperature; density = p .liquid-density }
 
 phase-of-requires-2 : tie.Need-phase-of-requires-2
 phase-of-requires-2 c κs =
     let p = c .before .before .pre in
-    record { table-sound = p .table-sound; temperature = p .temperature; density = p .vapour-density }
+    record { width = p .width; table-sound = p .table-sound; temperature = p .temperature; density = p .vapour-density }
 
 pressure-gap-of-requires : tie.Need-pressure-gap-of-requires
 unfolding phaseOf
 pressure-gap-of-requires c κs =
     let p = c .before .before .before .pre in
     rw (c .phase-of2 .ensures, c .before .phase-of .ensures)
-    (pressure-ready _ (p .table-sound) _ (p .temperature) _ (p .liquid-density), pressure-ready _ (p .table-sound) _ (p .temperature) _ (p .vapour-density))
+    (pressure-ready (p .width) _ (p .table-sound) _ (p .temperature) _ (p .liquid-density), pressure-ready (p .width) _ (p .table-sound) _ (p .temperature) _ (p .vapour-density))
 
 gibbs-gap-of-requires : tie.Need-gibbs-gap-of-requires
 unfolding phaseOf
@@ -30,8 +30,8 @@ gibbs-gap-of-requires c κs =
     let p = c .before .before .before .before .pre in (
       p .temperature,
       record { dense = p .liquid-density; thin = p .vapour-density; order = holds (≼-leq (p .above)) },
-      rw (c .before .before .phase-of .ensures) (sums-ready _ (p .table-sound) _ (p .temperature) _ (p .liquid-density)),
-      rw (c .before .phase-of2 .ensures) (sums-ready _ (p .table-sound) _ (p .temperature) _ (p .vapour-density)),
+      rw (c .before .before .phase-of .ensures) (sums-ready (p .width) _ (p .table-sound) _ (p .temperature) _ (p .liquid-density)),
+      rw (c .before .phase-of2 .ensures) (sums-ready (p .width) _ (p .table-sound) _ (p .temperature) _ (p .vapour-density)),
     )
 
 judged-requires : tie.Need-judged-requires
@@ -40,13 +40,13 @@ judged-requires c κs =
     let p = c .before .before .before .before .before .pre in (
       rw (c .gibbs-gap-of .ensures, c .before .pressure-gap-of .ensures, c .before .before .phase-of2 .ensures, c .before .before .before .phase-of .ensures) (
         (
-          (pressure-handy _ (p .table-sound) _ (p .temperature) _ (p .liquid-density), pressure-handy _ (p .table-sound) _ (p .temperature) _ (p .vapour-density)),
+          (pressure-handy (p .width) _ (p .table-sound) _ (p .temperature) _ (p .liquid-density), pressure-handy (p .width) _ (p .table-sound) _ (p .temperature) _ (p .vapour-density)),
           (
-            pressureGap-handy _ (p .table-sound) _ (p .temperature) _ _ (p .liquid-density) (p .vapour-density),
-            gibbsGap-handy _ (p .table-sound) _ (p .temperature) _ _ (p .liquid-density) (p .vapour-density) (p .above),
+            pressureGap-handy (p .width) _ (p .table-sound) _ (p .temperature) _ _ (p .liquid-density) (p .vapour-density),
+            gibbsGap-handy (p .width) _ (p .table-sound) _ (p .temperature) _ _ (p .liquid-density) (p .vapour-density) (p .above),
           ),
         ),
-        (stiffness-handy _ (p .table-sound) _ (p .temperature) _ (p .liquid-density), stiffness-handy _ (p .table-sound) _ (p .temperature) _ (p .vapour-density)),
+        (stiffness-handy (p .width) _ (p .table-sound) _ (p .temperature) _ (p .liquid-density), stiffness-handy (p .width) _ (p .table-sound) _ (p .temperature) _ (p .vapour-density)),
       ),
       (p .pressure-tolerance, p .gibbs-tolerance),
     )

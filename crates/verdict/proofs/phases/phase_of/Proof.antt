@@ -12,12 +12,12 @@ sums-of-requires c κs = search needs
 pressure-of-requires : tie.Need-pressure-of-requires
 pressure-of-requires c κs =
     let p = c .before .before .pre in
-    ((p .temperature, p .density), rw (c .sums-of .ensures) (sums-ready _ (p .table-sound) _ (p .temperature) _ (p .density)))
+    ((p .temperature, p .density), rw (c .sums-of .ensures) (sums-ready (p .width) _ (p .table-sound) _ (p .temperature) _ (p .density)))
 
 stiffness-of-requires : tie.Need-stiffness-of-requires
 stiffness-of-requires c κs =
     let p = c .before .before .before .pre in
-    (p .temperature, rw (c .before .sums-of .ensures) (sums-ready _ (p .table-sound) _ (p .temperature) _ (p .density)))
+    (p .temperature, rw (c .before .sums-of .ensures) (sums-ready (p .width) _ (p .table-sound) _ (p .temperature) _ (p .density)))
 
 returns : tie.Need-returns
 unfolding phaseOf pressure stiffness

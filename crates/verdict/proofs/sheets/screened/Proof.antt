@@ -29,14 +29,15 @@ returns-2 c = (
 
 phase-of-requires : tie.Need-phase-of-requires
 phase-of-requires c κs =
-    record { table-sound = c .before .before .before .before .before .pre; temperature = holds (passed (c .before .before .before .accepts-temperature .ensures) (c .before .before .if1 .left)); density = holds (passed (c .before .accepts-density .ensures) (c .if2 .left)) }
+    record { width = c .before .before .before .before .before .pre .0; table-sound = c .before .before .before .before .before .pre .1; temperature = holds (passed (c .before .before .before .accepts-temperature .ensures) (c .before .before .if1 .left)); density = holds (passed (c .before .accepts-density .ensures) (c .if2 .left)) }
 
 worked-requires : tie.Need-worked-requires
 unfolding phaseOf
 worked-requires c κs =
     let hot = holds (passed (c .before .before .before .before .accepts-temperature .ensures) (c .before .before .before .if1 .left)) in
     let dense = holds (passed (c .before .before .accepts-density .ensures) (c .before .if2 .left)) in
-    rw (c .phase-of .ensures) (pressure-handy _ (c .before .before .before .before .before .before .pre) _ hot _ dense, stiffness-handy _ (c .before .before .before .before .before .before .pre) _ hot _ dense)
+    let p = c .before .before .before .before .before .before .pre in
+    rw (c .phase-of .ensures) (pressure-handy (p .0) _ (p .1) _ hot _ dense, stiffness-handy (p .0) _ (p .1) _ hot _ dense)
 
 returns-3 : tie.Need-returns-3
 unfolding phaseOf

@@ -1,0 +1,89 @@
+-- The ends that are handed out for a bracket of either width are exactly its own, and the value of the equation itself lies between them at
+-- every level from 256: pressure, stiffness and the three gaps. Assumes nothing.
+use Prim.Native.Nat.{ℕ, _≤_}
+use mathlib.Core.Path.{_≡_}
+use mathlib.Core.Bool.{true}
+use mathlib.Core.List.{List}
+use native.Mathlib.Omega.{arith}
+use lib.Dec.{T}
+use lib.Ieee.{Float, fits, binary64}
+use Rattle.exact.specs.Fraction.{Fraction, _⊖_, _≼_}
+use Rattle.doubles.specs.Double.{exactOf}
+use Rattle.doubles.specs.Range.{acceptedTemperature, acceptedDensity, acceptedTarget}
+use Rattle.term.specs.Sound.{soundTable}
+use Rattle.bracket.specs.declared.Bracket.{Bracket}
+use Rattle.bracket.specs.Span.{_∈_}
+use Rattle.bracket.specs.Rules.{ends}
+use Rattle.equation.specs.Rules.{pressure, stiffness, gibbsGap, targetGap, pressureGap}
+use Rattle.equation.specs.Itself.{pressureAt, stiffnessAt, gibbsGapAt}
+use Rattle.equation.proofs.Covers.{covers-pressure, covers-stiffness, covers-gibbsGap, covers-targetGap, covers-pressureGap}
+use Rattle.verdict.specs.declared.Ends.{Ends}
+use Rattle.verdict.specs.Rules.{handedOut, soundWidth}
+use Rattle.verdict.specs.Balance.{Covers}
+use Rattle.verdict.specs.Handed.{Handy}
+use Rattle.verdict.proofs.Tests.{temperature-in, density-in}
+use Rattle.verdict.proofs.EitherWidth.{at-width}
+use Rattle.verdict.proofs.HandedOut.{handed-covers}
+use Rattle.verdict.proofs.Ready.{pressure-handy, stiffness-handy, targetGap-handy, pressureGap-handy, gibbsGap-handy}
+
+-- what lies in a bracket is covered by the ends that are handed out for it
+between : (e : Ends) (b : Bracket) → Handy b → e ≡ handedOut b → {x : Fraction} → x ∈ ends b → Covers e b x
+between e b h p i = rw p (handed-covers b h i)
+
+module _ (w : ℕ) (wide : soundWidth w ≡ true) (table : List ℕ) (sound : soundTable table ≡ true) (t : Float) (hot : T (acceptedTemperature t)) (e : Ends) (N : ℕ) (high : 256 ≤ N) where
+  module _ (rho : Float) (dense : T (acceptedDensity rho)) where
+    pub pressure-covered : e ≡ handedOut (pressure w table (exactOf t) (exactOf rho)) → Covers e (pressure w table (exactOf t) (exactOf rho)) (pressureAt N table (exactOf t) (exactOf rho))
+    pressure-covered =
+        at-width w
+        (λ (n : ℕ). e ≡ handedOut (pressure n table (exactOf t) (exactOf rho)) → Covers e (pressure n table (exactOf t) (exactOf rho)) (pressureAt N table (exactOf t) (exactOf rho)))
+        (λ v k p.
+        between e _ (pressure-handy k table sound t hot rho dense) p
+        (covers-pressure v N (omega (arith, k .low)) high table (temperature-in t hot) (density-in rho dense)))
+        wide
+
+    pub stiffness-covered : e ≡ handedOut (stiffness w table (exactOf t) (exactOf rho)) → Covers e (stiffness w table (exactOf t) (exactOf rho)) (stiffnessAt N table (exactOf t) (exactOf rho))
+    stiffness-covered =
+        at-width w
+        (λ (n : ℕ). e ≡ handedOut (stiffness n table (exactOf t) (exactOf rho)) → Covers e (stiffness n table (exactOf t) (exactOf rho)) (stiffnessAt N table (exactOf t) (exactOf rho)))
+        (λ v k p.
+        between e _ (stiffness-handy k table sound t hot rho dense) p
+        (covers-stiffness v N (omega (arith, k .low)) high table (temperature-in t hot) (density-in rho dense)))
+        wide
+
+    -- a target is an f64, and so a multiple of 2^-1074: that is what `fits` says, for the proofs' floats are wider than f64
+    pub targetGap-covered : (target : Float) → T (fits binary64 target) → T (acceptedTarget target) → e ≡ handedOut (targetGap w table (exactOf t) (exactOf rho) (exactOf target))
+        → Covers e (targetGap w table (exactOf t) (exactOf rho) (exactOf target)) (pressureAt N table (exactOf t) (exactOf rho) ⊖ exactOf target)
+    targetGap-covered target fit aim =
+        at-width w
+        (λ (n : ℕ).
+        e ≡ handedOut (targetGap n table (exactOf t) (exactOf rho) (exactOf target))
+        → Covers e (targetGap n table (exactOf t) (exactOf rho) (exactOf target)) (pressureAt N table (exactOf t) (exactOf rho) ⊖ exactOf target))
+        (λ v k p.
+        between e _ (targetGap-handy k table sound t hot rho dense target fit aim) p
+        (covers-targetGap v N (omega (arith, k .low)) high table (temperature-in t hot) (density-in rho dense) (exactOf target)))
+        wide
+
+  module _ (liquid vapour : Float) (dense : T (acceptedDensity liquid)) (thin : T (acceptedDensity vapour)) where
+    pub pressureGap-covered : e ≡ handedOut (pressureGap w table (exactOf t) (exactOf liquid) (exactOf vapour))
+        → Covers e (pressureGap w table (exactOf t) (exactOf liquid) (exactOf vapour)) (pressureAt N table (exactOf t) (exactOf liquid) ⊖ pressureAt N table (exactOf t) (exactOf vapour))
+    pressureGap-covered =
+        at-width w
+        (λ (n : ℕ).
+        e ≡ handedOut (pressureGap n table (exactOf t) (exactOf liquid) (exactOf vapour))
+        → Covers e (pressureGap n table (exactOf t) (exactOf liquid) (exactOf vapour)) (pressureAt N table (exactOf t) (exactOf liquid) ⊖ pressureAt N table (exactOf t) (exactOf vapour)))
+        (λ v k p.
+        between e _ (pressureGap-handy k table sound t hot liquid vapour dense thin) p
+        (covers-pressureGap v N (omega (arith, k .low)) high table (temperature-in t hot) (density-in liquid dense) (density-in vapour thin)))
+        wide
+
+    pub gibbsGap-covered : exactOf vapour ≼ exactOf liquid → e ≡ handedOut (gibbsGap w table (exactOf t) (exactOf liquid) (exactOf vapour))
+        → Covers e (gibbsGap w table (exactOf t) (exactOf liquid) (exactOf vapour)) (gibbsGapAt N table (exactOf t) (exactOf liquid) (exactOf vapour))
+    gibbsGap-covered above =
+        at-width w
+        (λ (n : ℕ).
+        e ≡ handedOut (gibbsGap n table (exactOf t) (exactOf liquid) (exactOf vapour))
+        → Covers e (gibbsGap n table (exactOf t) (exactOf liquid) (exactOf vapour)) (gibbsGapAt N table (exactOf t) (exactOf liquid) (exactOf vapour)))
+        (λ v k p.
+        between e _ (gibbsGap-handy k table sound t hot liquid vapour dense thin above) p
+        (covers-gibbsGap v N (omega (arith, k .low)) high table (temperature-in t hot) (density-in liquid dense) (density-in vapour thin) above))
+        wide
