@@ -10,10 +10,10 @@ use lib.Count.{leadingZeros}
 use lib.Dec.{eqb}
 use lib.Pow.{pow-add, pow-pos}
 use Rattle.sheet.specs.declared.divide.Outcome.{Outcome}
-use Rattle.sheet.specs.declared.division.Division.{Division}
+use Rattle.sheet.specs.declared.given.Division.{Division}
 use Rattle.sheet.specs.Magnitude.{Place, Cut}
 use Rattle.sheet.specs.Number.{Digits}
-use Rattle.sheet.specs.Steps.{Lesser, dividend, Divisible, BroughtDown, Quotes}
+use Rattle.sheet.specs.Steps.{Lesser, Dividing, Divisible, BroughtDown, Quotes}
 use Rattle.sheet.proofs.Gaps.{le-or-lt, zero-or-pos}
 use Rattle.sheet.proofs.Shifts.{pow-part, up-fits, up-full, some-zeros}
 
@@ -25,14 +25,14 @@ lesser-pos {a} {b} {r} l p q = ⊎-elim (λ z. let e : r ≡ a = l .one (omega a
 module _ (den : ℕ) (x : Division) (d : Divisible den x) where
   -- both numbers leave room for a digit
   pub room-left : {free t : ℕ} → x .rest < den → Lesser (leadingZeros 64 (x .digits)) (leadingZeros 64 (x .rest)) free → Lesser free (x .place) t → 0 < t
-  room-left h l k = lesser-pos k (lesser-pos l (some-zeros (x .digits) (d .few)) (some-zeros (x .rest) (omega (arith, d .begun .divisor .1)))) (d .begun .place)
+  room-left h l k = lesser-pos k (lesser-pos l (some-zeros (x .digits) (d .few)) (some-zeros (x .rest) (omega (arith, d .divisor .1)))) (d .place)
 
   module _ (word : x .rest < 2 ^ 64) (t : ℕ) (f : t ≤ leadingZeros 64 (x .digits)) (g : t ≤ leadingZeros 64 (x .rest)) where
     -- one of the two is not zero
     pub within-word : t < 64
     within-word =
         ⊎-elim
-        (λ z. omega (arith, g, up-full (x .rest) (omega (arith, z, d .begun .some)) word .0))
+        (λ z. omega (arith, g, up-full (x .rest) (omega (arith, z, d .some)) word .0))
         (λ p. omega (arith, f, up-full (x .digits) p (omega (arith, d .few)) .0))
         (zero-or-pos (x .digits))
 
@@ -53,8 +53,8 @@ module _ (den : ℕ) (x : Division) (d : Divisible den x) where
 
         some : 0 < x .digits → x .digits * 2 ^ t + x .rest * 2 ^ t / den < 2 ^ 64
         some p =
-            let k : x .rest * 2 ^ t < den * 2 ^ t = mul-lt-mul-of-pos-right (d .begun .left p) (pow-pos t) in
-            let q : x .rest * 2 ^ t / den < 2 ^ t = div-lt-iff-lt-mul (d .begun .divisor .0) .1 (let m : x .rest * 2 ^ t < 2 ^ t * den = omega arith in m) in
+            let k : x .rest * 2 ^ t < den * 2 ^ t = mul-lt-mul-of-pos-right (d .left p) (pow-pos t) in
+            let q : x .rest * 2 ^ t / den < 2 ^ t = div-lt-iff-lt-mul (d .divisor .0) .1 (let m : x .rest * 2 ^ t < 2 ^ t * den = omega arith in m) in
             omega (arith, above)
 
 -- ---- t digits are brought down
@@ -79,23 +79,19 @@ bring den t x p some h =
 
 -- ---- the way of a division
 
--- no digits yet, and all of the number left over
-pub all-left : (num den from : ℕ) → dividend den (record { digits = 0; rest = num; place = from }) ≡ num * 2 ^ from
-all-left num den from = ap (λ (k : ℕ). k * 2 ^ from) (omega arith)
+pub begins : (num den from : ℕ) → (0 * den + num) * 2 ^ from ≡ num * 2 ^ from
+begins num den from = ap (λ (k : ℕ). k * 2 ^ from) (omega arith)
 
 -- a number above zero leaves something to divide on the way
-pub left-over : (den : ℕ) (x y : Division) → 0 < den → 0 < x .digits + x .rest → dividend den y ≡ dividend den x → 0 < y .digits + y .rest
-left-over den x y p s w = ⊎-elim (λ z. absurd (none z)) (λ h. h) (zero-or-pos (y .digits + y .rest))
+pub left-over : (num den from : ℕ) (x : Division) → 0 < num → (x .digits * den + x .rest) * 2 ^ x .place ≡ num * 2 ^ from → 0 < x .digits + x .rest
+left-over num den from x p w = ⊎-elim (λ z. absurd (none z)) (λ h. h) (zero-or-pos (x .digits + x .rest))
   where
-    some : 0 < x .digits * den + x .rest
-    some = ⊎-elim (λ z. omega arith) (λ h. let q : 0 < x .digits * den = mul-pos h p in omega arith) (zero-or-pos (x .digits))
-
-    none : y .digits + y .rest ≡ 0 → ⊥
+    none : x .digits + x .rest ≡ 0 → ⊥
     none z =
-        let a : y .digits ≡ 0 = omega arith in
-        let b : y .rest ≡ 0 = omega arith in
-        let k : (0 * den + 0) * 2 ^ y .place ≡ dividend den x = rw (a, b) at w in
-        let q : 0 < dividend den x = mul-pos some (pow-pos (x .place)) in
+        let a : x .digits ≡ 0 = omega arith in
+        let b : x .rest ≡ 0 = omega arith in
+        let k : (0 * den + 0) * 2 ^ x .place ≡ num * 2 ^ from = rw (a, b) at w in
+        let q : 0 < num * 2 ^ from = mul-pos p (pow-pos from) in
         omega (arith, rw (zero-mul, add-zero, zero-mul) at k)
 
 -- each turn takes a place, and the first one the rest that is not yet below the divisor
@@ -114,26 +110,29 @@ falls den x y p b = ⊎-elim first later (le-or-lt den (x .rest))
     later : x .rest < den → y .place + y .rest / den < x .place + x .rest / den
     later h = let l = b .more h in rw none (omega arith)
 
-pub division-place : (num den : ℕ) (x : Division) → dividend den x ≡ num → x .rest < den → Place (x .digits) (not (eqb (x .rest) 0)) (x .place) num den
+pub division-place : (num den from : ℕ) (x : Division) → Dividing num den from x → Place (x .digits) (not (eqb (x .rest) 0)) (x .place) (num * 2 ^ from) den
 unfolding Cut
-division-place num den x w l = record { low = rest (eqb (x .rest) 0) refl; high = above }
+division-place num den from x d = record { low = rest (eqb (x .rest) 0) refl; high = above }
   where
-    above : num < (x .digits + 1) * 2 ^ x .place * den
-    above = omega (arith, w, mul-lt-mul-of-pos-right l (pow-pos (x .place)))
+    n : ℕ
+    n = num * 2 ^ from
 
-    rest : (b : Bool) → eqb (x .rest) 0 ≡ b → Cut (not b) (x .digits * 2 ^ x .place * den) num
+    above : num * 2 ^ from < (x .digits + 1) * 2 ^ x .place * den
+    above = omega (arith, d .whole, mul-lt-mul-of-pos-right (d .left) (pow-pos (x .place)))
+
+    rest : (b : Bool) → eqb (x .rest) 0 ≡ b → Cut (not b) (x .digits * 2 ^ x .place * den) (num * 2 ^ from)
     rest true t =
         let z : x .rest ≡ 0 = eqb-true (x .rest) 0 t in
-        omega (arith, w, ap (λ (k : ℕ). k * 2 ^ x .place) z)
+        omega (arith, d .whole, ap (λ (k : ℕ). k * 2 ^ x .place) z)
     rest false t =
         let p : 0 < x .rest = pos-of-ne-zero (eqb-false (x .rest) 0 t) in
-        omega (arith, w, mul-pos p (pow-pos (x .place)))
+        omega (arith, d .whole, mul-pos p (pow-pos (x .place)))
 
 -- ---- a division in one word
 
 pub quotes-place : (n den e : ℕ) (r : Outcome) → Quotes n den r → Place (r .digits) (not (eqb (r .rest) 0)) e (n * 2 ^ e) den
 quotes-place n den e r q =
-    division-place (n * 2 ^ e) den (record { digits = r .digits; rest = r .rest; place = e }) (ap (λ (k : ℕ). k * 2 ^ e) (q .whole)) (q .left)
+    division-place n den e (record { digits = r .digits; rest = r .rest; place = e }) (record { whole = ap (λ (k : ℕ). k * 2 ^ e) (q .whole); left = q .left })
 
 -- what is divided lies below one more of the digits
 quotes-below : (n den : ℕ) (r : Outcome) → Quotes n den r → n < (r .digits + 1) * den

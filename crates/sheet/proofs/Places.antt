@@ -2,8 +2,8 @@
 use mathlib.Core.Path.{_≡_, refl, sym, ap, subst}
 use mathlib.Core.Logic.{⊎-elim}
 use mathlib.Core.Bool.{Bool, true, false, not}
-use Prim.Native.Nat.{ℕ, suc, _+_, _-_, _*_, _/_, _%_, _^_, _≤_, _<_}
-use native.Mathlib.Nat.{le-trans, le-antisymm, le-of-eq, le-of-lt, lt-of-lt-of-le, mul-le-mul-right, mul-lt-mul-of-pos-right, lt-of-mul-lt-mul-right, eq-of-mul-eq-mul-right, div-lt-iff-lt-mul, le-div-iff-mul-le, div-mul-le-self, lt-div-mul-add, mul-pos, mul-zero, zero-mul, div-add-mod', mod-lt, pos-of-ne-zero}
+use Prim.Native.Nat.{ℕ, suc, _+_, _-_, _*_, _/_, _^_, _≤_, _<_}
+use native.Mathlib.Nat.{le-trans, le-antisymm, le-of-eq, le-of-lt, lt-of-lt-of-le, mul-le-mul-right, mul-lt-mul-of-pos-right, lt-of-mul-lt-mul-right, eq-of-mul-eq-mul-right, div-lt-iff-lt-mul, le-div-iff-mul-le, div-mul-le-self, lt-div-mul-add, mul-pos, mul-zero, zero-mul}
 use native.Mathlib.Omega.{arith}
 use borrow.Author.Tests.{eq-eqb, ne-eqb, eqb-true, eqb-false}
 use lib.Dec.{eqb}
@@ -191,27 +191,3 @@ place-less {e} {num} {den} k h p =
     let z : 0 < num = rw (zero-mul, zero-mul) at l in
     let a : 2 ^ e * den ≤ 2 ^ k * den = mul-le-mul-right den (pow-mono h) in
     record { low = rw (zero-mul, zero-mul) z; high = omega (arith, p .high) }
-
--- the digits of a division, and whether a rest is left
-pub place-div : (n d e : ℕ) → 0 < d → Place (n / d) (not (eqb (n % d) 0)) e (n * 2 ^ e) d
-unfolding Cut
-place-div n d e h = go (eqb (n % d) 0) refl
-  where
-    go : (b : Bool) → eqb (n % d) 0 ≡ b → Place (n / d) (not b) e (n * 2 ^ e) d
-    go b t =
-        let q : n / d * d + n % d ≡ n = div-add-mod' n d in
-        let l : n % d < d = mod-lt n h in
-        record { low = rest b t; high = omega (arith, ap (λ (x : ℕ). x * 2 ^ e) q, mul-lt-mul-of-pos-right l (pow-pos e)) }
-      where
-        rest : (c : Bool) → eqb (n % d) 0 ≡ c → Cut (not c) (n / d * 2 ^ e * d) (n * 2 ^ e)
-        rest true s =
-            let z : n % d ≡ 0 = eqb-true (n % d) 0 s in
-            let q : n / d * d + n % d ≡ n = div-add-mod' n d in
-            let r : n / d * d ≡ n = omega arith in
-            omega (arith, ap (λ (x : ℕ). x * 2 ^ e) r)
-        rest false s =
-            let z = eqb-false (n % d) 0 s in
-            let p : 0 < n % d = pos-of-ne-zero z in
-            let q : n / d * d + n % d ≡ n = div-add-mod' n d in
-            let r : n / d * d < n = omega arith in
-            omega (arith, mul-lt-mul-of-pos-right r (pow-pos e))

@@ -4,7 +4,7 @@ use mathlib.Core.Bool.{Bool, true, false}
 use Prim.Native.Nat.{ℕ, suc, _+_, _-_, _*_, _/_, _^_, _≤_, _<_}
 use Rattle.sheet.specs.declared.Sheet.{Sheet}
 use Rattle.sheet.specs.declared.divide.Outcome.{Outcome}
-use Rattle.sheet.specs.declared.division.Division.{Division}
+use Rattle.sheet.specs.declared.given.Division.{Division}
 use Rattle.sheet.specs.declared.place.Found.{Found}
 use Rattle.sheet.specs.Magnitude.{Place, Fit, roundMag}
 use Rattle.sheet.specs.Number.{signed, Spelled}
@@ -99,35 +99,31 @@ pub record Addends (v : ℕ) (a b : Sheet) : Type 0 where
   pub some : 0 < b .m
   pub order : extent b ≤ extent a
 
--- the number that a long division divides, whatever has been found of it
-abbrev pub dividend : ℕ → Division → ℕ
-dividend den x = (x .digits * den + x .rest) * 2 ^ x .place
+-- what a long division has found is num · 2^from / den
+pub record Dividing (num den from : ℕ) (x : Division) : Type 0 where
+  pub whole : (x .digits * den + x .rest) * 2 ^ x .place ≡ num * 2 ^ from
+  pub left : x .rest < den
 
 -- something is left to divide, and there is a place for a digit; before the first digit the rest may be any number
-pub record Begun (den : ℕ) (x : Division) : Type 0 where
+pub record Divisible (den : ℕ) (x : Division) : Type 0 where
+  pub few : x .digits < 2 ^ 63
   pub left : 0 < x .digits → x .rest < den
   pub divisor : (0 < den) × (den ≤ 2 ^ 63)
   pub some : 0 < x .digits + x .rest
   pub place : 0 < x .place
 
--- and a word has room for a digit more
-pub record Divisible (den : ℕ) (x : Division) : Type 0 where
-  pub begun : Begun den x
-  pub few : x .digits < 2 ^ 63
-
 -- the same quotient, with a digit more or many
 pub record BroughtDown (den : ℕ) (x y : Division) : Type 0 where
-  pub same : dividend den y ≡ dividend den x
+  pub same : (y .digits * den + y .rest) * 2 ^ y .place ≡ (x .digits * den + x .rest) * 2 ^ x .place
   pub left : y .rest < den
   pub place : y .place ≤ x .place
   pub more : x .rest < den → y .place < x .place
 
--- the same quotient, with suc v digits, or no place left
-pub record Divided (v den : ℕ) (x y : Division) : Type 0 where
-  pub same : dividend den y ≡ dividend den x
-  pub left : y .rest < den
-  pub full : 0 < y .place → 2 ^ v ≤ y .digits
-  pub place : y .place ≤ x .place
+-- with suc v digits, or no place left
+pub record Divided (v num den from : ℕ) (x : Division) : Type 0 where
+  pub found : Dividing num den from x
+  pub full : 0 < x .place → 2 ^ v ≤ x .digits
+  pub place : x .place ≤ from
 
 -- the digits of num / den, and what is left over
 pub record Quotes (num den : ℕ) (r : Outcome) : Type 0 where

@@ -1,7 +1,6 @@
-// Given values: a fraction of two numbers by long division, and a whole number. Assumes nothing.
+// Given values: a fraction of two numbers by long division, many digits a turn, and a whole number. Assumes nothing.
 use crate::Sheet;
-use crate::division::Division;
-use crate::division::long_division;
+use crate::place::lesser;
 use crate::place::rounded;
 ghost use mathlib.Core.Path.{_≡_};
 ghost use mathlib.Core.Bool.{false};
@@ -9,8 +8,58 @@ ghost use Prim.Native.Nat.{suc, _^_, _<_, _≤_};
 ghost use Rattle.exact.specs.Fraction.{nat, parts};
 ghost use Rattle.sheet.specs.Round.{round};
 ghost use Rattle.sheet.specs.Range.{Width};
+ghost use Rattle.sheet.specs.Steps.{Divisible, BroughtDown, Divided};
 
-// num / den with a sign. All of num is the first rest.
+// A long division on its way: the digits found, what is left over, and the place.
+pub struct Division {
+    pub digits: u64,
+    pub rest: u64,
+    pub place: u64,
+}
+
+// More digits: as many as leave what is found and what is left over within a word, and no more than there are places.
+fn brought_down(x: Division, den: u64) -> Division
+    requires { ⌜ Divisible den x ⌝ }
+    ensures { λ r. ⌜ BroughtDown den x r ⌝ }
+{
+    let digits = x.digits;
+    let rest = x.rest;
+    let place = x.place;
+    let free = lesser(
+        u64::leading_zeros(digits) as u64,
+        u64::leading_zeros(rest) as u64,
+    );
+    let t = lesser(free, place);
+    let n = rest << t;
+    Division {
+        digits: (digits << t) + n / den,
+        rest: n % den,
+        place: place - t,
+    }
+}
+
+// Digits are brought down until there are v + 1, or no place is left below. All of num is the first rest.
+fn long_division(v: u64, num: u64, den: u64, from: u64) -> Division
+    requires { ⌜ Width v × (0 < num) × (0 < den) × (den ≤ 2 ^ 63) × (0 < from) ⌝ }
+    ensures { λ r. ⌜ Divided v num den from r ⌝ }
+{
+    let full = 1 << v;
+    let mut x = Division {
+        digits: 0,
+        rest: num,
+        place: from,
+    };
+    while x.digits < full {
+        let place = x.place;
+        if place == 0 {
+            return x;
+        }
+        x = brought_down(x, den);
+    }
+    x
+}
+
+// num / den with a sign.
 pub fn ratio(v: u64, up: bool, neg: bool, num: u64, den: u64) -> Sheet
     requires { ⌜ Width v × (0 < den) × (den ≤ 2 ^ 63) ⌝ }
     ensures { λ r. ⌜ r ≡ round up (suc v) (parts neg num den) ⌝ }
@@ -22,12 +71,7 @@ pub fn ratio(v: u64, up: bool, neg: bool, num: u64, den: u64) -> Sheet
             e: 0,
         };
     }
-    let begun = Division {
-        digits: 0,
-        rest: num,
-        place: 262144,
-    };
-    let x = long_division(v, begun, den);
+    let x = long_division(v, num, den, 262144);
     let rest = x.rest;
     rounded(v, up, neg, x.digits, rest != 0, x.place)
 }

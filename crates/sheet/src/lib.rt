@@ -3,7 +3,6 @@
 // of bits: 31 or 52. Every function's contract is the rule itself. Assumes nothing.
 mod add; // add.rt: sum and difference
 mod divide; // divide.rt: the quotient, also by a small whole number
-mod division; // division.rt: long division, many digits a turn
 mod further; // further.rt: the sheet number so many further on
 mod given; // given.rt: fractions and whole numbers
 mod multiply; // multiply.rt: the product

@@ -1,12 +1,12 @@
--- `sheet::division::brought_down` meets its contract. Assumes nothing.
+-- `sheet::given::brought_down` meets its contract. Assumes nothing.
 use Prim.Native.Nat.{_*_, _^_, _≤_, _<_}
 use native.Mathlib.Nat.{mod-eq-of-lt}
 use native.Mathlib.Omega.{arith}
 use lib.Count.{leadingZeros, leading-le}
 use borrow.Author.Needs.{needs}
 use Rattle.sheet.proofs.Divisions.{room-left, within-word, rest-fits, digits-fit, sum-fits, bring}
-use Rattle.sheet.proofs.division.brought_down.Statement.{statement}
-use Rattle.sheet.proofs.division.brought_down.Tie as tie
+use Rattle.sheet.proofs.given.brought_down.Statement.{statement}
+use Rattle.sheet.proofs.given.brought_down.Tie as tie
 
 cast-lesser : tie.Need-cast-lesser
 cast-lesser c = omega (arith, leading-le 64 (c .args .x .digits))
@@ -68,7 +68,7 @@ returns c =
     let den = b .args .den in
     let x = b .args .x in
     rw (mod-eq-of-lt (digits-in-word c), mod-eq-of-lt (rest-in-word c))
-    (bring den _ x (b .pre .begun .divisor .0) (λ h. room-left den x (b .pre) h (c .before .lesser .ensures) (c .lesser2 .ensures)) (room c .below))
+    (bring den _ x (b .pre .divisor .0) (λ h. room-left den x (b .pre) h (c .before .lesser .ensures) (c .lesser2 .ensures)) (room c .below))
 
 pub brought-down-spec : {M : Type 1} → statement M
 brought-down-spec =
