@@ -1,11 +1,10 @@
--- Digits that may have gone past suc v, as the code counts and takes what stands above them, or cuts as many. Assumes nothing.
+-- Digits that may have gone past suc v, as the code counts and takes what stands above them. Assumes nothing.
 use mathlib.Core.Path.{_≡_, ap, _∙_}
 use mathlib.Core.Logic.{⊎-elim}
 use Prim.Native.Nat.{ℕ, suc, _+_, _-_, _*_, _/_, _%_, _^_, _≤_, _<_}
-use native.Mathlib.Nat.{mod-eq-of-lt, div-eq-of-lt, div-one, le-div-iff-mul-le, div-lt-iff-lt-mul}
+use native.Mathlib.Nat.{mod-eq-of-lt, div-eq-of-lt, le-div-iff-mul-le, div-lt-iff-lt-mul}
 use native.Mathlib.Omega.{arith}
 use lib.Pow.{pow-pos}
-use Rattle.sheet.specs.Number.{Digits}
 use Rattle.sheet.specs.Range.{Width}
 use Rattle.sheet.proofs.Gaps.{le-or-lt}
 use Rattle.sheet.proofs.Live.{width-room}
@@ -44,16 +43,3 @@ module _ {v : ℕ} (w : Width v) (m : ℕ) (h : m < 2 ^ suc (suc v)) where
 
   pub digits-carry : 2 ^ suc v ≤ m → m - m / 2 ^ (v + 1) * 2 ^ v % 2 ^ 64 ≡ m - 2 ^ v
   digits-carry l = omega (arith, half l)
-
-  -- as many cut as stand above
-  pub cut-plain : m < 2 ^ suc v → m / 2 ^ (m / 2 ^ (v + 1)) ≡ m
-  cut-plain l = ap (λ (c : ℕ). m / 2 ^ c) (none-above l) ∙ div-one m
-
-  pub cut-carry : 2 ^ suc v ≤ m → m / 2 ^ (m / 2 ^ (v + 1)) ≡ m / 2
-  cut-carry l = ap (λ (c : ℕ). m / 2 ^ c) (one-above l)
-
-  pub cut-digits : 2 ^ v ≤ m → Digits v (m / 2 ^ (m / 2 ^ (v + 1)))
-  cut-digits p = ⊎-elim two (λ l. rw (cut-plain l) (record { low = p; high = l })) (le-or-lt (2 ^ suc v) m)
-    where
-      two : 2 ^ suc v ≤ m → Digits v (m / 2 ^ (m / 2 ^ (v + 1)))
-      two l = rw (cut-carry l) (record { low = omega arith; high = omega arith })

@@ -53,6 +53,13 @@ few-digits {v} w h = lt-of-lt-of-le h (pow-mono (let k : 32 ≤ suc v = omega (a
 pub one-shl : {v : ℕ} → Width v → 1 * 2 ^ v % 2 ^ 64 ≡ 2 ^ v
 one-shl {v} w = let p : 2 ^ v ≤ 2 ^ 52 = width-room w in mod-eq-of-lt (omega arith) ∙ omega arith
 
+-- and the least that has a digit more
+pub full-shl : {v : ℕ} → Width v → 1 * 2 ^ (v + 1) % 2 ^ 64 ≡ 2 ^ suc v
+full-shl {v} w =
+    let p : 2 ^ v ≤ 2 ^ 52 = width-room w in
+    let q : 2 ^ (v + 1) ≡ 2 ^ suc v = ap (λ (k : ℕ). 2 ^ k) (omega arith) in
+    mod-eq-of-lt (omega arith) ∙ omega arith
+
 -- the two widths
 pub narrow : Width 31
 narrow = record { low = omega arith; high = omega arith; either = inl refl }

@@ -8,7 +8,7 @@ ghost use Rattle.sheet.specs.Magnitude.{finish};
 ghost use Rattle.sheet.specs.Number.{signed, Digits};
 ghost use Rattle.sheet.specs.Round.{away};
 ghost use Rattle.sheet.specs.Range.{Width};
-ghost use Rattle.sheet.specs.Steps.{Ready, Movable, Moved, CutBy, Loose, Normalised, Lesser, Carried, Rounds};
+ghost use Rattle.sheet.specs.Steps.{Keeps, Ready, Movable, Moved, CutBy, Loose, Normalised, Lesser, Carried, Rounds};
 
 // Digits so far, whether anything was cut below them, and their place.
 pub struct Found {
@@ -97,11 +97,15 @@ fn next(v: u64, neg: bool, m: u64, e: u64) -> Sheet
     ensures { λ r. ⌜ r ≡ signed neg (finish true true (suc v) (record { m = m; e = e })) ⌝ }
 {
     let n = m + 1;
-    let d = n >> (v + 1);
-    Sheet {
-        neg,
-        m: n >> d,
-        e: e + d,
+    let full = 1 << (v + 1);
+    if n < full {
+        Sheet { neg, m: n, e }
+    } else {
+        Sheet {
+            neg,
+            m: n / 2,
+            e: e + 1,
+        }
     }
 }
 
@@ -172,12 +176,22 @@ pub fn topped(v: u64, up: bool, neg: bool, m: u64, sticky: bool, e: u64) -> Shee
     ended(v, up, neg, y)
 }
 
+// The last digit is cut where there is one more than v + 1.
+fn fitted(v: u64, x: Found) -> Found
+    requires { ⌜ Width v × (2 ^ v ≤ x .m) × (x .m < 2 ^ suc (suc v)) × (x .e ≤ 2 ^ 62) ⌝ }
+    ensures { λ r. ⌜ Digits v (r .m) × (r .e ≤ x .e + 1) × Keeps x r ⌝ }
+{
+    let m = x.m;
+    let full = 1 << (v + 1);
+    if m < full { x } else { cut(x, 1) }
+}
+
 // v + 1 digits or one more, as products and quotients have them: at most one is cut.
 pub fn trimmed(v: u64, up: bool, neg: bool, m: u64, sticky: bool, e: u64) -> Sheet
     requires { ⌜ Width v × (2 ^ v ≤ m) × (m < 2 ^ suc (suc v)) × (e ≤ 2 ^ 62) ⌝ }
     ensures { λ r. ⌜ Rounds up neg m sticky e (suc v) r ⌝ }
 {
     let x = Found { m, sticky, e };
-    let y = cut(x, m >> (v + 1));
+    let y = fitted(v, x);
     ended(v, up, neg, y)
 }
