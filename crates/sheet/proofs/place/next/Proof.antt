@@ -1,21 +1,18 @@
 -- `sheet::place::next` meets its contract. Assumes nothing.
 use mathlib.Core.Path.{_≡_, sym, ap, _∙_}
 use mathlib.Core.Bool.{Bool, true}
-use Prim.Native.Nat.{ℕ, suc, _+_, _*_, _/_, _^_, _≤_, _<_}
+use Prim.Native.Nat.{ℕ, suc, _+_, _/_, _^_, _≤_, _<_}
 use native.Mathlib.Omega.{arith}
 use borrow.Author.Needs.{needs}
-use lib.Pow.{pow-pos, shl-shr}
+use lib.Pow.{pow-pos}
 use Rattle.sheet.specs.declared.Sheet.{Sheet}
-use Rattle.sheet.specs.Magnitude.{finish}
+use Rattle.sheet.specs.Magnitude.{next, finish}
 use Rattle.sheet.specs.Number.{signed}
 use Rattle.sheet.proofs.Live.{width-room, full-shl}
 use Rattle.sheet.proofs.Rounding.{next-carry, next-plain}
 use Rattle.sheet.proofs.Signed.{signed-pos}
 use Rattle.sheet.proofs.place.next.Statement.{statement}
 use Rattle.sheet.proofs.place.next.Tie as tie
-
-half : (v : ℕ) → 2 ^ suc v / 2 ≡ 2 ^ v
-half v = ap (λ (x : ℕ). x / 2) (let h : 2 ^ suc v ≡ 2 ^ v * 2 ^ 1 = omega arith in h) ∙ shl-shr (2 ^ v) 1
 
 module _ (v : ℕ) (neg : Bool) (m e : ℕ) (h : m < 2 ^ suc v) where
   abbrev made : ℕ → ℕ → Sheet
@@ -29,8 +26,8 @@ module _ (v : ℕ) (neg : Bool) (m e : ℕ) (h : m < 2 ^ suc v) where
   unfolding finish
   carry l =
       let q : m + 1 ≡ 2 ^ suc v = omega arith in
-      ap (λ (n : ℕ). made n (e + 1)) (ap (λ (n : ℕ). n / 2) q ∙ half v)
-      ∙ sym (ap (signed neg) (next-carry (suc v) m e q ∙ rw (half v)) ∙ signed-pos neg (2 ^ v) (e + 1) (λ z. omega (arith, pow-pos v)))
+      let n : next (suc v) (record { m = m; e = e }) ≡ record { m = (m + 1) / 2; e = e + 1 } = rw q (next-carry (suc v) m e q) in
+      sym (ap (signed neg) n ∙ signed-pos neg ((m + 1) / 2) (e + 1) (λ z. omega (arith, pow-pos v)))
 
 add-n : tie.Need-add-n
 add-n c = omega (arith, c .pre .1, width-room (c .pre .0))
