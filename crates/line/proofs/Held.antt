@@ -7,7 +7,7 @@ use mathlib.Core.List.{List, _++_}
 use lib.ListN.{length, drop, replicate, length-append, length-replicate}
 use lib.Seq.{sets-eq, take-append-seam}
 use Rattle.line.specs.declared.Line.{Line}
-use Rattle.line.specs.Put.{Put}
+use Rattle.lent.specs.Put.{Put}
 use Rattle.line.specs.Line.{Within, held}
 
 drop-replicate : (k n a : ℕ) → drop k (replicate n a) ≡ replicate (n - k) a

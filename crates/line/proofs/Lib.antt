@@ -1,5 +1,4 @@
 -- What the proofs of several functions use.
-pub mod Joined
 pub mod Spelt
 pub mod NotANumber
 pub mod BytesNumber

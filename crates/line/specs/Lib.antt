@@ -1,6 +1,5 @@
 -- The definitions that the contracts of `line` cite. Assumes nothing.
 pub mod Digits
-pub mod Put
 pub mod Line
 pub mod Proposal
 pub mod Width

@@ -5,7 +5,7 @@ ghost use mathlib.Core.List.{_++_, _∷_, []};
 ghost use Prim.Native.Nat.{_+_, _%_, _<_, _≤_};
 ghost use lib.Dec.{leb};
 ghost use Rattle.line.specs.Digits.{glyphOf, digitsOf, decimalOf, hexOf};
-ghost use Rattle.line.specs.Put.{Put};
+ghost use Rattle.lent.specs.Put.{Put};
 
 // A decimal number and a space.
 pub fn decimal(out: &mut [u8; 97], at: usize, n: u64) -> usize

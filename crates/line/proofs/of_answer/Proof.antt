@@ -2,7 +2,7 @@
 use borrow.Author.Needs.{needs}
 use native.Mathlib.Omega.{arith}
 use Rattle.line.specs.Line.{lineOf}
-use Rattle.line.proofs.Joined.{put-then}
+use Rattle.lent.proofs.Joined.{put-then}
 use Rattle.line.proofs.Held.{put-held, put-within}
 use Rattle.line.proofs.of_answer.Statement.{statement}
 use Rattle.line.proofs.of_answer.Tie as tie

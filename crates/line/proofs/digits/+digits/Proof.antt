@@ -4,7 +4,7 @@ use native.Mathlib.Omega.{arith}
 use mathlib.Core.Path.{sym, _∙_}
 use borrow.Fn.Kinds.{In}
 use borrow.Fn.PlainCycle.{Measures, is, falls, and}
-use Rattle.line.proofs.Joined.{put-none, put-same, put-then}
+use Rattle.lent.proofs.Joined.{put-none, put-same, put-then}
 use Rattle.line.proofs.Spelt.{digits-none, digits-more, digits-last}
 use Rattle.line.proofs.digits.digits.Reads as digits
 use Rattle.line.proofs.digits.digits.Kinds as digits-kinds

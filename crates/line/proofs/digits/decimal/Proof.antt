@@ -1,7 +1,7 @@
 -- `line::digits::decimal` meets its contract. Assumes nothing.
 use native.Mathlib.Omega.{arith}
 use Rattle.line.specs.Digits.{decimalOf}
-use Rattle.line.proofs.Joined.{put-then}
+use Rattle.lent.proofs.Joined.{put-then}
 use Rattle.line.proofs.digits.decimal.Statement.{statement}
 use Rattle.line.proofs.digits.decimal.Tie as tie
 

@@ -1,7 +1,7 @@
 -- `line::digits::hex` meets its contract. Assumes nothing.
 use native.Mathlib.Omega.{arith}
 use Rattle.line.specs.Digits.{hexOf}
-use Rattle.line.proofs.Joined.{put-then}
+use Rattle.lent.proofs.Joined.{put-then}
 use Rattle.line.proofs.digits.hex.Statement.{statement}
 use Rattle.line.proofs.digits.hex.Tie as tie
 

@@ -1,0 +1,4 @@
+-- The laws of `lent`. Assumes nothing.
+pub mod Joined
+pub mod Behind
+pub mod Steps

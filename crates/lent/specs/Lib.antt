@@ -1,0 +1,3 @@
+-- The definitions that the contracts of `lent` cite. Assumes nothing.
+pub mod Put
+pub mod Front
