@@ -31,7 +31,7 @@ unfolding wide
 wide-eight [] = refl
 wide-eight (x ∷ s) = rw (wide-eight s) (omega arith)
 
-fit-eight : (bytes : List ℕ) → Bytes bytes → Fit (map eight bytes)
+pub fit-eight : (bytes : List ℕ) → Bytes bytes → Fit (map eight bytes)
 fit-eight [] h = tt
 fit-eight (x ∷ s) h = (h 0, fit-eight s (λ i. h (suc i)))
 

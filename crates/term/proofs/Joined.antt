@@ -24,7 +24,7 @@ joined-below [] fit = omega arith
 joined-below (p ∷ ps) fit = rw (pow-add 2 (p .bits) (wide ps)) (digits-lt (fit .0) (joined-below ps (fit .1)))
 
 -- what stands above the bits of a field does not count
-above : (over low first bits e : ℕ) → (over * 2 ^ (first + bits + e) + low) / 2 ^ e % 2 ^ bits ≡ low / 2 ^ e % 2 ^ bits
+pub above : (over low first bits e : ℕ) → (over * 2 ^ (first + bits + e) + low) / 2 ^ e % 2 ^ bits ≡ low / 2 ^ e % 2 ^ bits
 above over low first bits e =
     let up : over * 2 ^ (first + bits + e) ≡ over * 2 ^ first * 2 ^ bits * 2 ^ e = rw (pow-add 2 (first + bits) e, pow-add 2 first bits) (omega arith) in
     rw (up, mul-add-div-right (pow-pos e) (over * 2 ^ first * 2 ^ bits) low, mul-add-mod-self-right (over * 2 ^ first) (2 ^ bits) (low / 2 ^ e))

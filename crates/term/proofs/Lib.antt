@@ -6,5 +6,7 @@ pub mod First
 pub mod Answers
 pub mod Terms
 pub mod Packing
+pub mod Bytes
 pub mod Reading
+pub mod Repacked
 pub mod Cases

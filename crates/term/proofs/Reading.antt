@@ -29,7 +29,7 @@ term-within before nine after small h =
       field-within before nine after 12 60 small (omega arith),
     )
 
-pack-length : (term : Term) → length (pack term) ≡ 9
+pub pack-length : (term : Term) → length (pack term) ≡ 9
 unfolding pack
 pack-length term = bytesOf-length 9 (joined (pieces term))
 
@@ -51,7 +51,7 @@ unfolding packTable pack
 packTable-bytes [] i = omega arith
 packTable-bytes (t ∷ ts) i = bytes-append (pack t) (packTable ts) (bytesOf-bytes 9 (joined (pieces t))) (packTable-bytes ts) i
 
-packTable-length : (ts : List Term) → length (packTable ts) ≡ 9 * length ts
+pub packTable-length : (ts : List Term) → length (packTable ts) ≡ 9 * length ts
 unfolding packTable
 packTable-length [] = refl
 packTable-length (t ∷ ts) = omega (arith, length-append (pack t) (packTable ts), pack-length t, packTable-length ts)

@@ -1,5 +1,5 @@
-// The packed term of document 01: its fields, its rules, and the check of a table of such terms.
-// Nothing here writes to the lent bytes.
+// The packed term of document 01: its fields, its rules, the check of a table of such terms, and a term packed.
+// Nothing here writes to a lent table.
 ghost use mathlib.Core.Path.{_≡_};
 ghost use Prim.Native.Nat.{_+_, _*_, _≤_};
 ghost use lib.ListN.{length};
@@ -7,7 +7,10 @@ ghost use Rattle.term.specs.Packed.{termAt, countTerms};
 ghost use Rattle.term.specs.Sound.{soundTerm, soundLength, firstBroken, tableAnswer};
 
 pub mod bits;
+mod packer;
 pub mod reader;
+
+pub use packer::put_term;
 
 // A term as its fields say; the coefficient is `magnitude` units of ten to the minus 16, below zero if `negative`.
 pub struct Term {
