@@ -2,3 +2,4 @@
 pub mod Joined
 pub mod Behind
 pub mod Steps
+pub mod Fronts

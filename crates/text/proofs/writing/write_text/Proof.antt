@@ -1,0 +1,49 @@
+-- `text::writing::write_text` meets its contract. Assumes nothing.
+use mathlib.Core.Path.{sym, _∙_}
+use Rattle.term.proofs.Answers.{sound-answer, answer-sound}
+use borrow.Author.Needs.{needs}
+use Rattle.text.proofs.writing.write_text.Statement.{statement}
+use Rattle.text.proofs.writing.write_text.Tie as tie
+
+check-table-requires : tie.Need-check-table-requires
+check-table-requires c κs = search needs
+
+enum-told : tie.Need-enum-told
+enum-told c = search needs
+
+enum-known-checked : tie.Need-enum-known-checked
+enum-known-checked c = search needs
+
+enum-told-2 : tie.Need-enum-told-2
+enum-told-2 c = search needs
+
+deliver-text-requires : tie.Need-deliver-text-requires
+deliver-text-requires c κs =
+    let e = sym (c .before .before .before .check-table .ensures .0) ∙ c .before .enum-told2 .given .1 in
+    sound-answer _ (answer-sound _ _ e .0)
+
+returns : tie.Need-returns
+returns c = search needs
+
+returns-2 : tie.Need-returns-2
+returns-2 c = search needs
+
+same-length : tie.Need-same-length
+same-length c = search needs
+
+returns-3 : tie.Need-returns-3
+returns-3 c = search needs
+
+pub write-text-spec : {M : Type 1} → statement M
+write-text-spec =
+    tie.close
+    (tie.spec
+    check-table-requires
+    enum-told
+    enum-known-checked
+    enum-told-2
+    deliver-text-requires
+    returns
+    returns-2
+    same-length
+    returns-3)
