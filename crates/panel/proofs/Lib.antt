@@ -1,3 +1,4 @@
 -- The laws of `panel`. Assumes nothing.
 pub mod Choices
 pub mod AcceptedCall
+pub mod TypedSettled

@@ -1,2 +1,3 @@
 -- The definitions that the contracts of `panel` cite. Assumes nothing.
 pub mod Chosen
+pub mod Typed

@@ -1,6 +1,9 @@
 // The calls of the bench panel, for C: one value of an answer at a width of 32 or 53 bits, by a choice. The table's bytes are lent, and only
 // read.
 // 0 the number, 1 the place, 2 to 5 the ends in order as f64 bits; anything that the answer does not have is 0.
+// `typed` has the calls on tables typed as text.
+mod typed;
+
 ghost use mathlib.Core.Path.{_≡_};
 ghost use lib.ListN.{getD};
 ghost use Rattle.verdict.specs.Rules.{stateAnswer, densityAnswer, pairAnswer};

@@ -60,10 +60,16 @@ unfolding digits numberOf
 digits-back zero n rest h = omega (arith, pow-zero 10)
 digits-back (suc k) n rest h =
     let less : n / 10 < 10 ^ k = div-lt-iff-lt-mul {k = 10} (omega arith) .1 (rw pow-suc at h) in
-    rw (append-assoc (digits k (n / 10)) ((48 + n % 10) ∷ []) rest, digits-back k (n / 10) ((48 + n % 10) ∷ rest) less, getD-at (digits k (n / 10)) (48 + n % 10) rest 0 k (digits-length k (n / 10)), figure-back (n % 10) (omega arith))
+    let last : ℕ = 48 + n % 10 in
+    rw (
+      append-assoc (digits k (n / 10)) (last ∷ []) rest,
+      digits-back k (n / 10) (last ∷ rest) less,
+      getD-at (digits k (n / 10)) last rest 0 k (digits-length k (n / 10)),
+      figure-back (n % 10) (omega arith),
+    )
     (div-add-mod' n 10)
 
-power-back : (power : ℕ) (rest : List ℕ) → power ≤ 7 → powerOf (tail power ++ rest) ≡ power
+power-back : (power : ℕ) (rest : List ℕ) → power < 16 → powerOf (tail power ++ rest) ≡ power
 unfolding tail powerOf
 power-back power rest h = by (ltb power 6) refl
   where
@@ -89,7 +95,20 @@ guess-back row rest g =
     let d = spaced-back (row .d) s2 (omega arith) in
     let t = spaced-back (row .t) s3 (omega arith) in
     let whole : rowText row ++ rest ≡ spaced (row .c) ++ s1 = simp append-assoc in
-    rw (whole, c .value, c .behind, d .value, d .behind, t .value, t .behind, front-sign (row .negative) s4, front-behind (row .negative) s4, digits-back 10 (row .ten) s5 (g .ten-below), drop-at (digits 10 (row .ten)) s5 10 (digits-length 10 (row .ten)), power-back (row .power) rest (g .power-most))
+    rw (
+      whole,
+      c .value,
+      c .behind,
+      d .value,
+      d .behind,
+      t .value,
+      t .behind,
+      front-sign (row .negative) s4,
+      front-behind (row .negative) s4,
+      digits-back 10 (row .ten) s5 (g .ten-below),
+      drop-at (digits 10 (row .ten)) s5 10 (digits-length 10 (row .ten)),
+      power-back (row .power) rest (omega arith),
+    )
 
 append-left : (x y z : List ℕ) → x ++ y ≡ x ++ z → y ≡ z
 append-left x y z e = sym (drop-at x y (length x) refl) ∙ ap (drop (length x)) e ∙ drop-at x z (length x) refl

@@ -21,12 +21,12 @@ use Rattle.term.proofs.Rules.{both}
 pub test-good : (row : Row) → goodRow row ≡ true → Good row
 unfolding goodRow
 test-good row h =
-    let p7 = both _ (leb (row .power) 7) h in
-    let p6 = both _ (ltb (row .ten) (10 ^ 10)) (p7 .0) in
-    let p5 = both _ (leb (10 ^ 9) (row .ten)) (p6 .0) in
-    let p4 = both _ (leb (row .t) 24) (p5 .0) in
-    let p3 = both _ (ltb (row .d) 16) (p4 .0) in
-    let p2 = both (ltb (row .c) 4) (ltb 0 (row .d)) (p3 .0) in
+    let p7 = both _ _ h in
+    let p6 = both _ _ (p7 .0) in
+    let p5 = both _ _ (p6 .0) in
+    let p4 = both _ _ (p5 .0) in
+    let p3 = both _ _ (p4 .0) in
+    let p2 = both _ _ (p3 .0) in
     record {
       c-below = ltb-true _ _ (p2 .0);
       d-above = ltb-true _ _ (p2 .1);
@@ -39,7 +39,16 @@ test-good row h =
 
 pub good-test : (row : Row) → Good row → goodRow row ≡ true
 unfolding goodRow
-good-test row g = rw (lt-ltb _ _ (g .c-below), lt-ltb _ _ (g .d-above), lt-ltb _ _ (g .d-below), le-leb _ _ (g .t-most), le-leb _ _ (g .ten-above), lt-ltb _ _ (g .ten-below), le-leb _ _ (g .power-most))
+good-test row g =
+    rw (
+      lt-ltb _ _ (g .c-below),
+      lt-ltb _ _ (g .d-above),
+      lt-ltb _ _ (g .d-below),
+      le-leb _ _ (g .t-most),
+      le-leb _ _ (g .ten-above),
+      lt-ltb _ _ (g .ten-below),
+      le-leb _ _ (g .power-most),
+    )
 
 -- a text put at the front of a line
 pub put-front-length : {text bytes : List ℕ} {len : ℕ} → Put (replicate 32 0) 0 text bytes len → length bytes ≡ 32
@@ -52,7 +61,8 @@ put-front-take {text} {bytes} {len} p h =
     (rw (n, e) (take-append-seam text (drop (0 + length text) (replicate 32 0))), n)
 
 module _ (s : List ℕ) (at : ℕ) (row : Row) where
-  pub read-yes : {bytes : List ℕ} {len : ℕ} → Good row → Put (replicate 32 0) 0 (rowText row) bytes len → len ≤ 32 → Stands s at (take len bytes) true → Reads s at (At row (at + len))
+  pub read-yes : {bytes : List ℕ} {len : ℕ} → Good row → Put (replicate 32 0) 0 (rowText row) bytes len → len ≤ 32
+      → Stands s at (take len bytes) true → Reads s at (At row (at + len))
   read-yes {bytes} {len} g p h st =
       let t = put-front-take p h in
       let y = rw (t .0) at st in
@@ -64,7 +74,8 @@ module _ (s : List ℕ) (at : ℕ) (row : Row) where
         within = omega (arith, t .1, z .1);
       }
 
-  pub read-no : {bytes : List ℕ} {len : ℕ} → row ≡ guessOf (drop at s) → Put (replicate 32 0) 0 (rowText row) bytes len → len ≤ 32 → Stands s at (take len bytes) false → Reads s at Bad
+  pub read-no : {bytes : List ℕ} {len : ℕ} → row ≡ guessOf (drop at s) → Put (replicate 32 0) 0 (rowText row) bytes len → len ≤ 32
+      → Stands s at (take len bytes) false → Reads s at Bad
   read-no {bytes} {len} e p h st r rest g here =
       let same : r ≡ row = sym (guess-back r rest g) ∙ ap guessOf (sym here) ∙ sym e in
       let y = rw (put-front-take p h .0) at st in

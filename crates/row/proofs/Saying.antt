@@ -91,8 +91,9 @@ term-one a b ga gb e =
           ∙ mul-div-cancel q (ten-pos (a .power));
     }) .only b gb (sym e)
 
-pub scaled-below : (ten i k : ℕ) → ten < 10 ^ 10 → i ≤ k → ten * 10 ^ i ≤ ten * 10 ^ k
-scaled-below ten i k h l = mul-le-mul-left ten (pow-le-pow-right {n = 10} (omega arith) {i = i} {j = k} l)
+-- ten digits times a power of ten grow with the power
+pub scaled-below : (ten i k : ℕ) → i ≤ k → ten * 10 ^ i ≤ ten * 10 ^ k
+scaled-below ten i k l = mul-le-mul-left ten (pow-le-pow-right {n = 10} (omega arith) {i = i} {j = k} l)
 
 pub good-fields : (row : Row) → Good row → WithinFields (termOf row)
 unfolding termOf
@@ -101,13 +102,13 @@ good-fields row g =
       c-below = g .c-below;
       d-below = g .d-below;
       t-below = omega arith;
-      magnitude-below = omega (arith, scaled-below (row .ten) (row .power) 7 (g .ten-below) (g .power-most));
+      magnitude-below = omega (arith, scaled-below (row .ten) (row .power) 7 (omega arith));
     }
 
 -- what a good row says is a sound term
 pub good-sound : (row : Row) → Good row → soundTerm (termOf row) ≡ true
 unfolding soundTerm termOf
 good-sound row g =
-    let most : row .ten * 10 ^ row .power ≤ 10 ^ 17 = omega (arith, scaled-below (row .ten) (row .power) 7 (g .ten-below) (g .power-most)) in
+    let most : row .ten * 10 ^ row .power ≤ 10 ^ 17 = omega (arith, scaled-below (row .ten) (row .power) 7 (omega arith)) in
     let some : 0 < row .ten * 10 ^ row .power = mul-pos (omega (arith, g .ten-above)) (ten-pos (row .power)) in
     rw (lt-ltb 0 (row .d) (g .d-above), le-leb (row .t) 24 (g .t-most), lt-ltb 0 (row .ten * 10 ^ row .power) some, le-leb (row .ten * 10 ^ row .power) (10 ^ 17) most)

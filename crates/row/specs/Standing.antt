@@ -1,9 +1,9 @@
 -- What stands at a place of a text: a row, or none. Assumes nothing.
-use Prim.Native.Nat.{ℕ, _+_, _≤_}
+use Prim.Native.Nat.{ℕ, _+_, _≤_, _<_}
 use mathlib.Core.Path.{_≡_}
 use mathlib.Core.Bool.{Bool, true, false}
 use mathlib.Core.List.{List, _++_}
-use lib.ListN.{length, drop}
+use lib.ListN.{length, getD, drop}
 use Rattle.row.specs.declared.Row.{Row}
 use Rattle.row.specs.declared.Found.{Found}
 use Rattle.row.specs.declared.Found.the-variants.{At, Bad}
@@ -25,7 +25,12 @@ abbrev pub Reads : List ℕ → ℕ → Found → Type 0
 Reads s at (At row next) = RowAt s at row next
 Reads s at Bad = NoRow (drop at s)
 
--- whether some bytes stand at a place of a list
+-- whether a byte stands at a place of a list, where the list has a place
+pub record Holds (s : List ℕ) (at byte : ℕ) (r : Bool) : Type 0 where
+  pub yes : r ≡ true → (at < length s) × (getD s at 0 ≡ byte)
+  pub no : r ≡ false → at < length s → getD s at 0 ≡ byte → ⊥
+
+-- whether some bytes stand there
 pub record Stands (s : List ℕ) (at : ℕ) (bytes : List ℕ) (r : Bool) : Type 0 where
   pub yes : r ≡ true → (drop at s ≡ bytes ++ drop (at + length bytes) s) × (at + length bytes ≤ length s)
   pub no : r ≡ false → (rest : List ℕ) → drop at s ≡ bytes ++ rest → ⊥

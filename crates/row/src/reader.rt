@@ -3,7 +3,7 @@ ghost use mathlib.Core.Path.{_≡_};
 ghost use Prim.Native.Nat.{_+_, _<_, _≤_, _^_};
 ghost use lib.ListN.{length, getD, drop, take};
 ghost use Rattle.row.specs.Guess.{figure, shortSmall, smallOf, past, signOf, frontPast, numberOf, powerOf, guessOf};
-ghost use Rattle.row.specs.Standing.{Stands};
+ghost use Rattle.row.specs.Standing.{Holds, Stands};
 use super::Row;
 
 fn wide(byte: u8) -> u64
@@ -109,6 +109,17 @@ pub fn guess(text: &[u8], at: usize) -> Row
     }
 }
 
+// Whether a byte stands at a place; behind the end none does.
+fn holds(text: &[u8], at: usize, byte: u8) -> bool
+    ensures { λ r. ⌜ Holds (now (text .entry)) at byte r ⌝ }
+{
+    if at < text.len() {
+        text[at] == byte
+    } else {
+        false
+    }
+}
+
 // Whether the first `len` bytes of a line stand at a place of the text.
 pub fn stands(text: &[u8], at: usize, line: &[u8; 32], len: usize) -> bool
     requires { ⌜ (at ≤ 4096) × (at ≤ length (now text)) × (len ≤ 32) × (len ≤ length (now line)) ⌝ }
@@ -116,10 +127,7 @@ pub fn stands(text: &[u8], at: usize, line: &[u8; 32], len: usize) -> bool
 {
     let mut i: usize = 0;
     while i < len {
-        if text.len() <= at + i {
-            return false;
-        }
-        if text[at + i] != line[i] {
+        if !holds(text, at + i, line[i]) {
             return false;
         }
         i += 1;

@@ -19,9 +19,9 @@ pub fn term_of(row: Row) -> Term
     }
 }
 
-// Ten digits times ten to a power.
+// Ten digits times ten to a power: up to the ninth they fit a word.
 fn scaled(ten: u64, power: u64) -> u64
-    requires { ⌜ (ten < 10 ^ 10) × (power ≤ 7) ⌝ }
+    requires { ⌜ (ten < 10 ^ 10) × (power ≤ 9) ⌝ }
     ensures { λ r. ⌜ r ≡ ten * 10 ^ power ⌝ }
 {
     let mut value = ten;

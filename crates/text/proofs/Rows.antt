@@ -77,29 +77,33 @@ module _ {text table₀ : List ℕ} {at count : ℕ} {table : List ℕ} (p : Pas
       record {
         rows = p .rows ++ (row ∷ []);
         good = good-snoc (p .rows) row (p .good) (r .good);
-        bytes = p .bytes ∙ ap (λ x. rowsText (p .rows) ++ x) (r .here) ∙ sym (append-assoc (rowsText (p .rows)) (rowText row) (drop next text)) ∙ ap (λ x. x ++ drop next text) (sym (text-snoc (p .rows) row));
+        bytes = p .bytes ∙ ap (λ x. rowsText (p .rows) ++ x) (r .here)
+            ∙ sym (append-assoc (rowsText (p .rows)) (rowText row) (drop next text))
+            ∙ ap (λ x. x ++ drop next text) (sym (text-snoc (p .rows) row));
         counted = sym (length-append (p .rows) (row ∷ []) ∙ ap (λ n. n + 1) (sym (p .counted)));
         most = omega arith;
         within = r .within;
         near = omega (arith, r .reached, row-length row, p .near);
         room = p .room;
         full = ap length e ∙ length-sets table (9 * count) (pack (termOf row)) ∙ p .full;
-        written = e ∙ ap (λ x. sets x (9 * count) (pack (termOf row))) (p .written) ∙ behind (packed (p .rows)) table₀ (9 * count) (pack (termOf row)) long (omega (arith, nine, p .room)) ∙ rw (packed-snoc (p .rows) row, place);
+        written = e ∙ ap (λ x. sets x (9 * count) (pack (termOf row))) (p .written)
+            ∙ behind (packed (p .rows)) table₀ (9 * count) (pack (termOf row)) long (omega (arith, nine, p .room))
+            ∙ rw (packed-snoc (p .rows) row, place);
       }
 
   some-left : at < length text → drop at text ≡ [] → ⊥
   some-left l e = omega (arith, ap length e, length-drop at text)
 
   -- a 65th row
-  pub passed-full : count ≡ 64 → at < length text → FirstBad text 65
+  pub passed-full : 64 ≤ count → at < length text → FirstBad text 65
   passed-full e l =
       record {
         rows = p .rows;
         rest = drop at text;
         good = p .good;
         bytes = p .bytes;
-        counted = omega (arith, p .counted);
-        most = omega (arith, p .counted);
+        counted = omega (arith, p .counted, p .most);
+        most = omega (arith, p .counted, p .most);
         more = λ n. absurd (some-left l n);
         bad = λ k. absurd (omega (arith, p .counted));
       }

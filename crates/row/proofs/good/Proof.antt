@@ -1,4 +1,4 @@
--- `text::good` meets its contract: at each return the tests that led there decide the rule. Assumes nothing.
+-- `row::good` meets its contract: at each return the tests that led there decide the rule. Assumes nothing.
 use borrow.Author.Tests.{le-leb, lt-leb, le-ltb, lt-ltb}
 use mathlib.Core.Bool.{and-false}
 use native.Mathlib.Omega.{arith}
@@ -34,7 +34,14 @@ returns-7 : tie.Need-returns-7
 unfolding goodRow
 returns-7 c =
     let a = c .before .before .before .before .before .before .before .before .before .before .before .before .before .args .row in
-    simp (lt-ltb (a .c) 4 (omega arith), lt-ltb 0 (a .d) (omega arith), lt-ltb (a .d) 16 (omega arith), le-leb (a .t) 24 (omega arith), le-leb 1000000000 (a .ten) (omega arith), lt-ltb (a .ten) 10000000000 (omega arith))
+    simp (
+      lt-ltb (a .c) 4 (omega arith),
+      lt-ltb 0 (a .d) (omega arith),
+      lt-ltb (a .d) 16 (omega arith),
+      le-leb (a .t) 24 (omega arith),
+      le-leb 1000000000 (a .ten) (omega arith),
+      lt-ltb (a .ten) 10000000000 (omega arith),
+    )
 
 pub good-spec : {M : Type 1} → statement M
 good-spec =

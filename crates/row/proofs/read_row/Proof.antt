@@ -1,4 +1,4 @@
--- `text::read_row` meets its contract. Assumes nothing.
+-- `row::read_row` meets its contract. Assumes nothing.
 use native.Mathlib.Omega.{arith}
 use mathlib.Core.Path.{sym, subst, _∙_}
 use Rattle.row.specs.Standing.{Stands}
@@ -23,13 +23,24 @@ add-t10 : tie.Need-add-t10
 add-t10 c = search needs
 
 returns : tie.Need-returns
-returns c = let a = c .before .before .before .before .before .before .before .before .before .args in read-yes (a .text .now) (a .at) _ (test-good _ (sym (c .before .before .before .before .before .before .good2 .ensures) ∙ c .before .before .before .before .before .if1 .taken)) (c .before .before .before .put-row .ensures .0) (omega arith) (subst (Stands _ _ _) (c .if2 .taken) (c .before .stands .ensures))
+returns c =
+    let line = c .before .before .before in
+    let test = line .before .before in
+    let a = test .before .before .before .before .args in
+    let good = test-good _ (sym (test .before .good2 .ensures) ∙ test .if1 .taken) in
+    read-yes (a .text .now) (a .at) _ good (line .put-row .ensures .0) (omega arith) (subst (Stands _ _ _) (c .if2 .taken) (c .before .stands .ensures))
 
 returns-2 : tie.Need-returns-2
-returns-2 c = let a = c .before .before .before .before .before .before .before .before .before .args in read-no (a .text .now) (a .at) _ (c .before .before .before .before .before .before .before .guess .ensures) (c .before .before .before .put-row .ensures .0) (omega arith) (subst (Stands _ _ _) (c .if2 .left) (c .before .stands .ensures))
+returns-2 c =
+    let line = c .before .before .before in
+    let guess = line .before .before .before .before in
+    let a = guess .before .before .args in
+    read-no (a .text .now) (a .at) _ (guess .guess .ensures) (line .put-row .ensures .0) (omega arith) (subst (Stands _ _ _) (c .if2 .left) (c .before .stands .ensures))
 
 returns-3 : tie.Need-returns-3
-returns-3 c = let a = c .before .before .before .before .args in read-none (a .text .now) (a .at) _ (c .before .before .guess .ensures) (sym (c .before .good2 .ensures) ∙ c .if1 .left)
+returns-3 c =
+    let a = c .before .before .before .before .args in
+    read-none (a .text .now) (a .at) _ (c .before .before .guess .ensures) (sym (c .before .good2 .ensures) ∙ c .if1 .left)
 
 pub read-row-spec : {M : Type 1} → statement M
 read-row-spec =

@@ -45,7 +45,13 @@ returns c =
     let e2 = c .before .before .before .before .before .before .before .before .past-at2 .ensures .0 in
     let e3 = c .before .before .before .before .before .before .before .past-at3 .ensures .0 in
     let e4 = c .before .before .before .before .before .before .front-at .ensures .0 in
-    guessed s (a .at) e1 e2 e3 e4 (c .before .before .before .before .before .small-at .ensures) (c .before .before .before .before .small-at2 .ensures) (c .before .before .before .small-at3 .ensures) (c .before .before .minus-at .ensures) (c .before .ten-at .ensures) (c .power-at .ensures)
+    guessed s (a .at) e1 e2 e3 e4
+    (c .before .before .before .before .before .small-at .ensures)
+    (c .before .before .before .before .small-at2 .ensures)
+    (c .before .before .before .small-at3 .ensures)
+    (c .before .before .minus-at .ensures)
+    (c .before .ten-at .ensures)
+    (c .power-at .ensures)
 
 pub guess-spec : {M : Type 1} → statement M
 guess-spec =

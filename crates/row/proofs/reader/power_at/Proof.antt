@@ -34,13 +34,19 @@ add-result : tie.Need-add-result
 add-result c = search needs
 
 returns : tie.Need-returns
-returns c = let a = c .before .before .before .before .before .args in sym (power-minus (a .text .now) (a .at) _ _ (c .before .before .before .byte-at .ensures) (c .before .before .if1 .taken) (c .before .figure-at .ensures .0))
+returns c =
+    let a = c .before .before .before .before .before .args in
+    sym (power-minus (a .text .now) (a .at) _ _ (c .before .before .before .byte-at .ensures) (c .before .before .if1 .taken) (c .before .figure-at .ensures .0))
 
 returns-2 : tie.Need-returns-2
-returns-2 c = let a = c .before .before .before .before .before .args in sym (power-minus (a .text .now) (a .at) _ _ (c .before .before .before .byte-at .ensures) (c .before .before .if1 .taken) (c .before .figure-at .ensures .0) ∙ omega arith)
+returns-2 c =
+    let a = c .before .before .before .before .before .args in
+    sym (power-minus (a .text .now) (a .at) _ _ (c .before .before .before .byte-at .ensures) (c .before .before .if1 .taken) (c .before .figure-at .ensures .0) ∙ omega arith)
 
 returns-3 : tie.Need-returns-3
-returns-3 c = let a = c .before .before .before .before .args in sym (power-plain (a .text .now) (a .at) _ _ (c .before .before .byte-at .ensures) (c .before .if1 .left) (c .figure-at2 .ensures .0))
+returns-3 c =
+    let a = c .before .before .before .before .args in
+    sym (power-plain (a .text .now) (a .at) _ _ (c .before .before .byte-at .ensures) (c .before .if1 .left) (c .figure-at2 .ensures .0))
 
 pub power-at-spec : {M : Type 1} → statement M
 power-at-spec =

@@ -32,7 +32,9 @@ returns c = rw (sym (c .before .short-at .ensures) ∙ c .if1 .taken, getD-drop,
 
 returns-2 : tie.Need-returns-2
 unfolding smallOf
-returns-2 c = rw (sym (c .before .before .short-at .ensures) ∙ c .before .if1 .left, getD-drop, add-zero, getD-drop) (ap₂ (λ a b. a * 10 + b) (c .before .before .before .figure-at .ensures .0) (c .figure-at2 .ensures .0))
+returns-2 c =
+    rw (sym (c .before .before .short-at .ensures) ∙ c .before .if1 .left, getD-drop, add-zero, getD-drop)
+    (ap₂ (λ a b. a * 10 + b) (c .before .before .before .figure-at .ensures .0) (c .figure-at2 .ensures .0))
 
 pub small-at-spec : {M : Type 1} → statement M
 small-at-spec =

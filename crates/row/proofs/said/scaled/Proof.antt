@@ -1,4 +1,4 @@
--- `text::scaled` meets its contract. Assumes nothing.
+-- `row::said::scaled` meets its contract. The loop's invariant: the value is the ten digits times as many tens as were passed. Assumes nothing.
 use Prim.Native.Nat.{_-_, _*_, _^_, _≤_}
 use native.Mathlib.Nat.{pow-zero, pow-suc}
 use native.Mathlib.Numerals.{add-one}
@@ -19,7 +19,9 @@ loop-holds : tie.Need-loop-holds Inv-loop μ-loop
 loop-holds c = (omega arith, omega (arith, pow-zero 10))
 
 mul-value : tie.Need-mul-value Inv-loop μ-loop
-mul-value c = let a = c .before .before .args in omega (arith, scaled-below (a .ten) (c .before .loop .i) 7 (omega arith) (omega arith))
+mul-value c =
+    let l = c .before in
+    omega (arith, scaled-below (l .before .args .ten) (l .loop .i) 8 (omega arith))
 
 add-i : tie.Need-add-i Inv-loop μ-loop
 add-i c = search needs
@@ -28,10 +30,13 @@ loop-less : tie.Need-loop-less Inv-loop μ-loop
 loop-less c = search needs
 
 loop-again : tie.Need-loop-again Inv-loop μ-loop
-loop-again c = let l = c .before in let a = l .before .args in (omega arith, rw (add-one, pow-suc) (omega (arith, l .loop .inv .1)))
+loop-again c = (omega arith, rw (add-one, pow-suc) (omega (arith, c .before .loop .inv .1)))
 
 returns : tie.Need-returns Inv-loop μ-loop
-returns c = let l = c .before in let e : l .loop .i ≡ l .before .args .power = omega arith in rw (← e) (l .loop .inv .1)
+returns c =
+    let l = c .before in
+    let all : l .loop .i ≡ l .before .args .power = omega arith in
+    rw (← all) (l .loop .inv .1)
 
 pub scaled-spec : {M : Type 1} → statement M
 scaled-spec =

@@ -17,7 +17,9 @@ put-requires-3 c κs = search needs
 
 returns : tie.Need-returns
 unfolding front
-returns c = rw (c .before .before .before .before .before .before .if1 .taken) (put-then (put-then (c .before .before .before .before .put .ensures) (c .before .before .put2 .ensures)) (c .put3 .ensures), omega arith)
+returns c =
+    let minus = c .before .before .before .before in
+    rw (minus .before .before .if1 .taken) (put-then (put-then (minus .put .ensures) (c .before .before .put2 .ensures)) (c .put3 .ensures), omega arith)
 
 put-requires-4 : tie.Need-put-requires-4
 put-requires-4 c κs = search needs

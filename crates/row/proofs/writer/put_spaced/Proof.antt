@@ -1,5 +1,5 @@
 -- `row::writer::put_spaced` meets its contract. Assumes nothing.
-use Rattle.lent.proofs.Joined.{put-none, put-same, put-then}
+use Rattle.lent.proofs.Joined.{put-then}
 use native.Mathlib.Omega.{arith}
 use borrow.Author.Tests.{lt-ltb, le-ltb}
 use Rattle.row.specs.Row.{spaced, small}
@@ -15,7 +15,10 @@ put-requires c κs = search needs
 
 returns : tie.Need-returns
 unfolding spaced small
-returns c = rw (lt-ltb _ _ (c .before .before .before .before .if1 .taken)) (put-then (c .before .before .put-digit .ensures) (c .put .ensures), omega arith)
+returns c =
+    let n = c .before .before .before .before .before .args .n in
+    let one = lt-ltb n 10 (omega arith) in
+    rw one (put-then (c .before .before .put-digit .ensures) (c .put .ensures), omega arith)
 
 put-digit-requires-2 : tie.Need-put-digit-requires-2
 put-digit-requires-2 c κs = search needs
@@ -28,7 +31,11 @@ put-requires-2 c κs = search needs
 
 returns-2 : tie.Need-returns-2
 unfolding spaced small
-returns-2 c = rw (le-ltb _ _ (c .before .before .before .before .before .before .if1 .left)) (put-then (put-then (c .before .before .before .before .put-digit2 .ensures) (c .before .before .put-digit3 .ensures)) (c .put2 .ensures), omega arith)
+returns-2 c =
+    let first = c .before .before .before .before in
+    let n = first .before .before .before .args .n in
+    let two = le-ltb n 10 (omega arith) in
+    rw two (put-then (put-then (first .put-digit2 .ensures) (c .before .before .put-digit3 .ensures)) (c .put2 .ensures), omega arith)
 
 pub put-spaced-spec : {M : Type 1} → statement M
 put-spaced-spec =

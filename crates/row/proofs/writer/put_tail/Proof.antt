@@ -1,5 +1,5 @@
 -- `row::writer::put_tail` meets its contract. Assumes nothing.
-use Rattle.lent.proofs.Joined.{put-none, put-same, put-then}
+use Rattle.lent.proofs.Joined.{put-then}
 use native.Mathlib.Omega.{arith}
 use borrow.Author.Tests.{lt-ltb, le-ltb}
 use Rattle.row.specs.Row.{tail}
@@ -24,7 +24,12 @@ put-requires-3 c κs = search needs
 
 returns : tie.Need-returns
 unfolding tail
-returns c = rw (lt-ltb _ _ (c .before .before .before .before .before .before .if1 .taken)) (put-then (put-then (put-then (c .before .before .before .before .before .before .before .put .ensures) (c .before .before .before .before .put2 .ensures)) (c .before .before .put-digit .ensures)) (c .put3 .ensures), omega arith)
+returns c =
+    let digit = c .before .before in
+    let sign = digit .before .before in
+    let start = sign .before .before in
+    let minus = lt-ltb _ _ (start .if1 .taken) in
+    rw minus (put-then (put-then (put-then (start .before .put .ensures) (sign .put2 .ensures)) (digit .put-digit .ensures)) (c .put3 .ensures), omega arith)
 
 put-digit-requires-2 : tie.Need-put-digit-requires-2
 put-digit-requires-2 c κs = search needs
@@ -34,7 +39,11 @@ put-requires-4 c κs = search needs
 
 returns-2 : tie.Need-returns-2
 unfolding tail
-returns-2 c = rw (le-ltb _ _ (c .before .before .before .before .if1 .left)) (put-then (put-then (c .before .before .before .before .before .put .ensures) (c .before .before .put-digit2 .ensures)) (c .put4 .ensures), omega arith)
+returns-2 c =
+    let digit = c .before .before in
+    let start = digit .before .before in
+    let plain = le-ltb _ _ (start .if1 .left) in
+    rw plain (put-then (put-then (start .before .put .ensures) (digit .put-digit2 .ensures)) (c .put4 .ensures), omega arith)
 
 pub put-tail-spec : {M : Type 1} → statement M
 put-tail-spec =

@@ -24,7 +24,7 @@ loop-holds : tie.Need-loop-holds Inv-loop μ-loop
 loop-holds c = passed-none _ _ (c .before .pre)
 
 returns : tie.Need-returns Inv-loop μ-loop
-returns c = passed-full (c .before .before .loop .inv) (c .if1 .taken) (c .before .loop-test .taken)
+returns c = passed-full (c .before .before .loop .inv) (omega (arith, c .if1 .taken)) (c .before .loop-test .taken)
 
 read-row-requires : tie.Need-read-row-requires Inv-loop μ-loop
 read-row-requires c κs = let p = c .before .before .loop .inv in (omega (arith, p .near, p .most), p .within)
@@ -36,7 +36,8 @@ add-t10 : tie.Need-add-t10 Inv-loop μ-loop
 add-t10 c = omega (arith, c .before .before .before .before .before .loop .inv .most)
 
 returns-2 : tie.Need-returns-2 Inv-loop μ-loop
-returns-2 c = passed-bad (c .before .before .before .before .before .loop .inv) (c .before .before .before .before .loop-test .taken) (subst (Reads _ _) (c .enum-told .given .1) (c .before .before .read-row .ensures))
+returns-2 c =
+    passed-bad (c .before .before .before .before .before .loop .inv) (c .before .before .before .before .loop-test .taken) (subst (Reads _ _) (c .enum-told .given .1) (c .before .before .read-row .ensures))
 
 enum-known-found : tie.Need-enum-known-found Inv-loop μ-loop
 enum-known-found c = search needs
@@ -76,10 +77,10 @@ mul-t18 : tie.Need-mul-t18 Inv-loop μ-loop
 mul-t18 c = omega (arith, c .before .before .loop .inv .most)
 
 returns-3 : tie.Need-returns-3 Inv-loop μ-loop
-returns-3 c = passed-empty (c .before .before .loop .inv) (c .before .loop-test .left) (c .if2 .taken)
+returns-3 c = passed-empty (c .before .before .loop .inv) (c .before .loop-test .left) (omega (arith, c .if2 .taken))
 
 returns-4 : tie.Need-returns-4 Inv-loop μ-loop
-returns-4 c = passed-end (c .before .before .loop .inv) (c .before .loop-test .left) (c .if2 .left)
+returns-4 c = passed-end (c .before .before .loop .inv) (c .before .loop-test .left) (λ none. omega (arith, c .if2 .left))
 
 pub read-rows-spec : {M : Type 1} → statement M
 read-rows-spec =

@@ -25,24 +25,29 @@ deliver-requires : tie.Need-deliver-requires
 deliver-requires c κs = typed-fits (told-text (c .before .before .before .spelled2 .given .1) (c .before .before .before .before .before .spell-terms .ensures))
 
 returns : tie.Need-returns
-returns c = (c .before .before .before .before .before .before .before .pre, subst (SpellsOut _ _ _) (c .before .spelled .given .1) (c .before .before .before .spell-terms .ensures), refl)
+returns c =
+    let call = c .before .before .before in
+    (call .before .before .before .before .pre, subst (SpellsOut _ _ _) (c .before .spelled .given .1) (call .spell-terms .ensures), refl)
 
 same-length : tie.Need-same-length
 same-length c = search needs
 
 returns-2 : tie.Need-returns-2
 returns-2 c =
-    let t = told-text (c .before .before .before .before .before .before .before .spelled2 .given .1) (c .before .before .before .before .before .before .before .before .before .spell-terms .ensures) in
-    (c .before .before .before .before .before .before .before .before .before .before .before .before .before .pre, typed-delivered t (c .before .before .before .deliver .ensures) (c .if1 .taken))
+    let text = c .before .before .before .before .before .before .before in
+    let call = text .before .before in
+    let t = told-text (text .spelled2 .given .1) (call .spell-terms .ensures) in
+    (call .before .before .before .before .pre, typed-delivered t (c .before .before .before .deliver .ensures) (c .if1 .taken))
 
 same-length-2 : tie.Need-same-length-2
 same-length-2 c = search needs
 
 returns-3 : tie.Need-returns-3
 returns-3 c =
-    let t = told-text (c .before .before .before .before .before .before .before .spelled2 .given .1) (c .before .before .before .before .before .before .before .before .before .spell-terms .ensures) in
-    let none = typed-no-room t (c .before .before .before .deliver .ensures) (c .if1 .left) in
-    (c .before .before .before .before .before .before .before .before .before .before .before .before .before .pre, none .0, none .1)
+    let text = c .before .before .before .before .before .before .before in
+    let call = text .before .before in
+    let none = typed-no-room (told-text (text .spelled2 .given .1) (call .spell-terms .ensures)) (c .before .before .before .deliver .ensures) (c .if1 .left) in
+    (call .before .before .before .before .pre, none .0, none .1)
 
 pub deliver-text-spec : {M : Type 1} → statement M
 deliver-text-spec =

@@ -65,8 +65,10 @@ loop-again c =
     let l = c .before .before .before .before .before .before .before .before .before .before in
     let w = c .before .before .before .put-row .ensures in
     let f = put-front-take (w .0) (omega (arith, w .1)) in
-    let g = test-good _ (sym (c .before .before .before .before .before .before .good2 .ensures) ∙ not-false _ (c .before .before .before .before .before .if1 .left)) in
-    let r = subst (λ t. RowOf t (c .before .before .before .before .before .before .before .row-of .result)) (c .before .before .before .before .before .before .before .before .term-at .ensures .0) (c .before .before .before .before .before .before .before .row-of .ensures) in
+    let test = c .before .before .before .before .before in
+    let row = test .before .before in
+    let g = test-good _ (sym (test .before .good2 .ensures) ∙ not-false _ (test .if1 .left)) in
+    let r = subst (λ t. RowOf t (row .row-of .result)) (row .before .term-at .ensures .0) (row .row-of .ensures) in
     let e = subst (λ x. Put (l .loop .text) (l .loop .at) x (c .put-bytes .last .0) (c .put-bytes .result)) (f .0) (c .put-bytes .ensures) in
     done-more (l .loop .inv) _ _ _ (omega (arith, l .before .before .before .pre .0)) (omega (arith, l .before .count-terms .ensures)) g (r .says g) (e .reached) (e .bytes)
 
