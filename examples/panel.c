@@ -6,16 +6,16 @@
  * Built by 'rt staticlib panel' and, on x86-64, 'gcc -Iinclude -o panel examples/panel.c target/staticlib/libpanel.a';
  * 'tests/c examples/panel.c TERMS PROPOSALS' builds and runs it on either kind of machine.
  *
- * TERMS is a file of packed terms; PROPOSALS has five doubles for each plug, most significant byte first: temperature,
- * liquid, vapour, pressure tolerance, Gibbs tolerance, as the bench program takes them.  WIDTH is 32, which stands where
- * it is missing, or 53; any other gets the answer that the library has for it.  Ends with status 1 where a file can't be
- * read. */
+ * TERMS is a file of packed terms or, where its name ends in .txt, a table typed as text; PROPOSALS has five doubles for
+ * each plug, most significant byte first: temperature, liquid, vapour, pressure tolerance, Gibbs tolerance, as the bench
+ * program takes them.  WIDTH is 32, which stands where it is missing, or 53; any other gets the answer that the library
+ * has for it.  Ends with status 1 where a file can't be read or a typed table is refused. */
 #include <stdio.h>
 #include <string.h>
 
 #include "waterbench.h"
 
-enum { LONGEST_TABLE = 576, NUMBERS = 5, BYTES = 8 * NUMBERS };
+enum { LONGEST_TABLE = 576, LONGEST_TEXT = 1664, NUMBERS = 5, BYTES = 8 * NUMBERS };
 
 /* By the pair check's refusals, which have no number but these. */
 static const char *const reasons[] = {
@@ -51,6 +51,27 @@ struct bench {
     uint8_t table[LONGEST_TABLE + 1]; /* one byte more, so that a longer file is seen to be longer */
     size_t length;
 };
+
+/* The packed terms of a typed table; 0 where it is refused. */
+static int read_typed(struct bench *b, FILE *terms)
+{
+    uint8_t text[LONGEST_TEXT + 1]; /* one byte more, as for a table */
+    size_t length = fread(text, 1, sizeof text, terms);
+
+    if (wb_read_text(text, length, b->table, LONGEST_TABLE, WB_NUMBER) != WB_ACCEPTED) {
+        uint64_t line = wb_read_text(text, length, b->table, LONGEST_TABLE, WB_PLACE);
+        fprintf(stderr, "panel: line %lu is no row of a table\n", (unsigned long)line);
+        return 0;
+    }
+    b->length = wb_read_text(text, length, b->table, LONGEST_TABLE, WB_WRITTEN);
+    return 1;
+}
+
+static int is_text(const char *name)
+{
+    size_t length = strlen(name);
+    return length >= 4 && strcmp(name + length - 4, ".txt") == 0;
+}
 
 static uint64_t ask(const struct bench *b, struct plug p, uint64_t choice)
 {
@@ -117,7 +138,10 @@ int main(int count, char **words)
         return 1;
     }
     b.width = count == 4 ? width_of(words[3]) : WB_COARSE;
-    b.length = fread(b.table, 1, sizeof b.table, terms);
+    if (!is_text(words[1]))
+        b.length = fread(b.table, 1, sizeof b.table, terms);
+    else if (!read_typed(&b, terms))
+        return 1;
     for (unsigned long plug = 1; (got = fread(bytes, 1, BYTES, proposals)) != 0; plug++) {
         struct plug p;
         if (got < BYTES) {

@@ -9,8 +9,8 @@ pub extern "C" fn wb_read_text(text: &[u8], out: &mut [u8], choice: u64) -> u64
     ensures { λ r. ⌜ ReadCalled (now (text .entry)) (now (out .entry)) (now (out .exit)) choice r ⌝ }
     ensures { λ _. ⌜ now (text .exit) ≡ now (text .entry) ⌝ }
 {
-    let values = text::read_values(text::read_text(text, out));
-    super::at(&values, choice)
+    let read = text::read_values(text::read_text(text, out));
+    super::at(&read, choice)
 }
 
 // Packed terms to a text table.
@@ -19,6 +19,6 @@ pub extern "C" fn wb_write_text(table: &[u8], out: &mut [u8], choice: u64) -> u6
     ensures { λ r. ⌜ WriteCalled (now (table .entry)) (now (out .entry)) (now (out .exit)) choice r ⌝ }
     ensures { λ _. ⌜ now (table .exit) ≡ now (table .entry) ⌝ }
 {
-    let values = text::write_values(text::write_text(table, out));
-    super::at(&values, choice)
+    let written = text::write_values(text::write_text(table, out));
+    super::at(&written, choice)
 }
