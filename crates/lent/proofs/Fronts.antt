@@ -1,10 +1,10 @@
 -- What a buffer holds once a front is written: its length is kept, and as many bytes as the front has are the front, there and where
 -- they are delivered. Assumes nothing.
-use Prim.Native.Nat.{ℕ, _+_, _≤_}
+use Prim.Native.Nat.{ℕ}
 use native.Mathlib.Omega.{arith}
 use mathlib.Core.Path.{_≡_, sym, ap, subst, _∙_}
 use mathlib.Core.Bool.{Bool}
-use mathlib.Core.List.{List, _++_}
+use mathlib.Core.List.{List}
 use lib.ListN.{length, drop, take, length-append, length-drop}
 use lib.Seq.{take-at}
 use Rattle.lent.specs.Front.{Front, Delivered}

@@ -1,6 +1,6 @@
 -- The calls on tables typed as text: what they hand back and what they leave in the buffer are settled, and each choice by itself. Assumes nothing.
 use Prim.Native.Nat.{ℕ, _≤_}
-use mathlib.Core.Path.{_≡_, refl, sym, ap, _∙_}
+use mathlib.Core.Path.{_≡_, sym, ap, _∙_}
 use mathlib.Core.List.{List}
 use lib.ListN.{getD, List·getD-eq-default}
 use Rattle.text.specs.declared.ReadAnswer.{ReadAnswer}

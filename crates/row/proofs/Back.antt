@@ -1,14 +1,14 @@
 -- A row that is spelt reads back: the fields guessed from its bytes are its own, whatever stands behind it. So a text begins with at most one row.
 -- Assumes nothing.
-use Prim.Native.Nat.{ℕ, zero, suc, _+_, _-_, _*_, _/_, _%_, _^_, _≤_, _<_}
-use native.Mathlib.Nat.{pow-zero, pow-suc, add-zero, div-lt-iff-lt-mul, div-add-mod', mod-eq-of-lt, mod-lt}
+use Prim.Native.Nat.{ℕ, zero, suc, _+_, _-_, _/_, _%_, _^_, _≤_, _<_}
+use native.Mathlib.Nat.{pow-zero, pow-suc, div-lt-iff-lt-mul, div-add-mod', mod-eq-of-lt}
 use native.Mathlib.Omega.{arith}
 use native.Mathlib.Numerals.{add-one}
-use mathlib.Core.Path.{_≡_, refl, sym, ap, ap₂, _∙_}
-use mathlib.Core.Bool.{Bool, true, false, cond}
+use mathlib.Core.Path.{_≡_, refl, sym, ap, _∙_}
+use mathlib.Core.Bool.{Bool, true, false}
 use mathlib.Core.List.{List, [], _∷_, _++_, append-assoc}
-use borrow.Author.Tests.{ltb-true, ltb-false, lt-ltb, le-ltb, ne-eqb}
-use lib.ListN.{length, getD, drop, length-append}
+use borrow.Author.Tests.{ltb-true, ltb-false, ne-eqb}
+use lib.ListN.{length, drop, length-append}
 use lib.Seq.{getD-at, drop-at}
 use lib.Dec.{ltb, eqb}
 use Rattle.row.specs.declared.Row.{Row}

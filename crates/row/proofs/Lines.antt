@@ -1,13 +1,11 @@
 -- A row is one line: its only line feed is its last byte. So no row stands at the front of a text exactly if the line there is no row.
 -- Assumes nothing.
-use Prim.Native.Nat.{ℕ, zero, suc, _+_, _-_, _*_, _/_, _%_, _≤_, _<_}
-use native.Mathlib.Nat.{add-assoc}
+use Prim.Native.Nat.{ℕ, zero, suc, _+_, _-_, _/_, _%_}
 use native.Mathlib.Omega.{arith}
 use mathlib.Core.Path.{_≡_, refl, sym, ap, _∙_}
-use mathlib.Core.Bool.{Bool, true, false, cond}
+use mathlib.Core.Bool.{Bool, true, false}
 use mathlib.Core.List.{List, [], _∷_, _++_, append-assoc}
 use borrow.Author.Tests.{ne-eqb}
-use lib.ListN.{length}
 use lib.Dec.{ltb, eqb}
 use Rattle.row.specs.declared.Row.{Row}
 use Rattle.row.specs.Row.{Good, small, spaced, front, digits, tail, rowText}

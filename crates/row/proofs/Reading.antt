@@ -1,14 +1,13 @@
 -- The reader of one row: the guess, spelt and held against the text, decides whether a row stands there. Assumes nothing.
-use Prim.Native.Nat.{ℕ, _+_, _^_, _≤_, _<_}
+use Prim.Native.Nat.{ℕ, _+_, _≤_}
 use native.Mathlib.Nat.{zero-add}
 use native.Mathlib.Omega.{arith}
-use mathlib.Core.Path.{_≡_, refl, sym, ap, subst, _∙_}
-use mathlib.Core.Bool.{Bool, true, false, _&&_, false≢true}
-use mathlib.Core.List.{List, [], _∷_, _++_}
+use mathlib.Core.Path.{_≡_, refl, sym, ap, _∙_}
+use mathlib.Core.Bool.{true, false, false≢true}
+use mathlib.Core.List.{List, _++_}
 use borrow.Author.Tests.{ltb-true, leb-true, lt-ltb, le-leb}
 use lib.ListN.{length, drop, take, replicate, length-replicate}
-use lib.Seq.{sets, sets-eq, length-sets, take-append-seam}
-use lib.Dec.{ltb, leb}
+use lib.Seq.{sets-eq, length-sets, take-append-seam}
 use Rattle.row.specs.declared.Row.{Row}
 use Rattle.row.specs.declared.Found.the-variants.{At, Bad}
 use Rattle.lent.specs.Put.{Put}

@@ -1,13 +1,13 @@
 -- A row and the term that it says: a good row says a sound term, a term has at most one good row, and which one it can be. Assumes nothing.
-use Prim.Native.Nat.{ℕ, zero, suc, _+_, _*_, _/_, _%_, _^_, _≤_, _<_}
+use Prim.Native.Nat.{ℕ, suc, _*_, _/_, _%_, _^_, _≤_, _<_}
 use native.Mathlib.Nat.{pow-zero, pow-suc, pow-le-pow-right, mul-pos, mul-lt-mul-of-pos-right, mul-le-mul, mul-le-mul-left, mul-div-cancel, mul-mod-left, div-add-mod', not-suc-le-zero}
 use native.Mathlib.Omega.{arith}
 use mathlib.Core.Path.{_≡_, refl, sym, ap, _∙_}
-use mathlib.Core.Bool.{Bool, true, false, cond, _&&_}
+use mathlib.Core.Bool.{Bool, true, false}
 use borrow.Author.Tests.{ltb-true, ltb-false, lt-ltb, le-leb}
-use lib.Dec.{ltb, leb}
+use lib.Dec.{ltb}
 use Rattle.term.specs.declared.Term.{Term}
-use Rattle.term.specs.Bounds.{WithinFields}
+use Rattle.term.specs.Bounds.{WithinFields, Bounds}
 use Rattle.term.specs.Sound.{soundTerm}
 use Rattle.row.specs.declared.Row.{Row}
 use Rattle.row.specs.Row.{Good, termOf}
@@ -112,3 +112,13 @@ good-sound row g =
     let most : row .ten * 10 ^ row .power ≤ 10 ^ 17 = omega (arith, scaled-below (row .ten) (row .power) 7 (omega arith)) in
     let some : 0 < row .ten * 10 ^ row .power = mul-pos (omega (arith, g .ten-above)) (ten-pos (row .power)) in
     rw (lt-ltb 0 (row .d) (g .d-above), le-leb (row .t) 24 (g .t-most), lt-ltb 0 (row .ten * 10 ^ row .power) some, le-leb (row .ten * 10 ^ row .power) (10 ^ 17) most)
+
+-- a sound term has a spelling where its magnitude is ten digits, the first not zero, times ten to a power from 0 to 7: nothing else counts
+pub digits-said : (term : Term) (ten power : ℕ) → Bounds term → 10 ^ 9 ≤ ten → ten < 10 ^ 10 → power ≤ 7 → ten * 10 ^ power ≡ term .magnitude
+    → (row : Row) × Good row × (termOf row ≡ term)
+unfolding termOf
+digits-said term ten power b above below most e =
+    let row : Row = record { c = term .c; d = term .d; t = term .t; negative = term .negative; ten = ten; power = power } in
+    let good : Good row =
+    record { c-below = b .c-below; d-above = b .d-above; d-below = b .d-below; t-most = b .t-most; ten-above = above; ten-below = below; power-most = most } in
+    (row, good, λ i. record { c = term .c; d = term .d; t = term .t; negative = term .negative; magnitude = e i })

@@ -1,6 +1,6 @@
 // The fields of a row, read off without refusing a byte; and whether some bytes stand at a place of a text.
 ghost use mathlib.Core.Path.{_≡_};
-ghost use Prim.Native.Nat.{_+_, _<_, _≤_, _^_};
+ghost use Prim.Native.Nat.{_+_, _<_, _≤_};
 ghost use lib.ListN.{length, getD, drop, take};
 ghost use Rattle.row.specs.Guess.{figure, shortSmall, smallOf, past, signOf, frontPast, numberOf, powerOf, guessOf};
 ghost use Rattle.row.specs.Standing.{Holds, Stands};

@@ -1,6 +1,6 @@
 // The writer of one row into a line of 32 bytes.
 ghost use mathlib.Core.Path.{_≡_};
-ghost use mathlib.Core.List.{_++_, _∷_, []};
+ghost use mathlib.Core.List.{_∷_, []};
 ghost use Prim.Native.Nat.{_+_, _<_, _≤_};
 ghost use Rattle.lent.specs.Put.{Put};
 ghost use Rattle.row.specs.Row.{Good, spaced, front, digits, tail, rowText};

@@ -1,7 +1,7 @@
 -- Row 38 by itself is a table, and its packed term is the nine bytes that document 01 prints. Assumes nothing.
 use native.Mathlib.Omega.{arith}
 use mathlib.Core.Path.{_≡_, refl, sym, ap, _∙_}
-use mathlib.Core.List.{List, [], _∷_, _++_, append-nil}
+use mathlib.Core.List.{[], _∷_, append-nil}
 use Rattle.term.specs.Row.{row38, fields38}
 use Rattle.term.specs.Pieces.{joined, wide}
 use Rattle.term.specs.Pack.{bytesOf, pieces, pack, packTable}

@@ -1,5 +1,5 @@
 -- Every text is a table or has a first bad line. Assumes nothing.
-use Prim.Native.Nat.{ℕ, zero, suc, _+_, _*_, _≤_, _<_}
+use Prim.Native.Nat.{ℕ, zero, suc, _+_, _≤_, _<_}
 use native.Mathlib.Omega.{arith}
 use mathlib.Core.Path.{_≡_, refl, sym, ap, _∙_}
 use mathlib.Core.Logic.{_⊎_, inl, inr, ⊎-elim}
@@ -10,7 +10,6 @@ use Rattle.row.specs.Row.{rowText}
 use Rattle.row.specs.Standing.{NoRow}
 use Rattle.row.proofs.Decided.{Begins, row-or-none}
 use Rattle.text.specs.Table.{AllGood, rowsText, Spells, FirstBad}
-use Rattle.text.proofs.One.{no-row-nil}
 use Rattle.text.proofs.Rows.{good-snoc, text-snoc}
 
 pub record Table (text : List ℕ) : Type 0 where

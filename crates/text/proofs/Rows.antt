@@ -12,7 +12,7 @@ use Rattle.row.specs.declared.Row.{Row}
 use Rattle.row.specs.Row.{Good, rowText, termOf}
 use Rattle.row.specs.Standing.{NoRow, RowAt}
 use Rattle.row.proofs.Length.{row-length, row-some}
-use Rattle.text.specs.Table.{AllGood, rowsText, termsOf, packed, Spells, FirstBad}
+use Rattle.text.specs.Table.{AllGood, rowsText, termsOf, packed, FirstBad}
 use Rattle.text.specs.Reads.{Taken}
 
 pub good-snoc : (rows : List Row) (row : Row) → AllGood rows → Good row → AllGood (rows ++ (row ∷ []))

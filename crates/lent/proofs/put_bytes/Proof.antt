@@ -1,10 +1,10 @@
 -- `lent::put_bytes` meets its contract. The loop's invariant: the bytes passed are put. Assumes nothing.
 use Prim.Native.Nat.{_+_, _-_, _≤_}
 use native.Mathlib.Omega.{arith}
-use mathlib.Core.Path.{_≡_, refl, sym, ap, _∙_}
+use mathlib.Core.Path.{_≡_, refl, sym, ap}
 use borrow.Author.Needs.{needs}
 use lib.ListN.{length, take, length-set}
-use lib.Seq.{sets, length-sets, length-take-le}
+use lib.Seq.{sets, length-take-le}
 use Rattle.lent.proofs.Steps.{one-more}
 use Rattle.lent.proofs.put_bytes.Statement.{statement}
 use Rattle.lent.proofs.put_bytes.Tie as tie

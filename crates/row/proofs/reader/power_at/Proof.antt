@@ -1,10 +1,7 @@
 -- `row::reader::power_at` meets its contract. Assumes nothing.
 use Rattle.row.proofs.Parts.{power-minus, power-plain}
-use Prim.Native.Nat.{_+_, _-_}
-use mathlib.Core.Path.{sym, ap, _∙_}
+use mathlib.Core.Path.{sym, _∙_}
 use native.Mathlib.Omega.{arith}
-use lib.Seq.{getD-drop}
-use Rattle.row.specs.Guess.{powerOf}
 use borrow.Author.Needs.{needs}
 use Rattle.row.proofs.reader.power_at.Statement.{statement}
 use Rattle.row.proofs.reader.power_at.Tie as tie

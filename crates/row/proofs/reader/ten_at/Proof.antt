@@ -1,4 +1,4 @@
--- `text::reader::ten_at` meets its contract. The loop's invariant: the value is that of the digits passed. Assumes nothing.
+-- `row::reader::ten_at` meets its contract. The loop's invariant: the value is that of the digits passed. Assumes nothing.
 use Prim.Native.Nat.{_-_, _≤_}
 use native.Mathlib.Omega.{arith}
 use native.Mathlib.Numerals.{add-one}

@@ -1,4 +1,4 @@
--- `text::power_of` meets its contract. Assumes nothing.
+-- `row::said::power_of` meets its contract. Assumes nothing.
 use Prim.Native.Nat.{ℕ, _-_, _*_, _^_, _≤_, _<_}
 use native.Mathlib.Nat.{pow-zero, pow-suc, pow-le-pow-right, not-suc-le-zero}
 use native.Mathlib.Numerals.{add-one}

@@ -1,5 +1,5 @@
 -- `row::writer::put_front` meets its contract. Assumes nothing.
-use Rattle.lent.proofs.Joined.{put-none, put-same, put-then}
+use Rattle.lent.proofs.Joined.{put-then}
 use native.Mathlib.Omega.{arith}
 use Rattle.row.specs.Row.{front}
 use borrow.Author.Needs.{needs}
