@@ -5,7 +5,8 @@ Record: function (0 reads a text, 1 writes one), room (the buffer's length in by
 Line: what the call hands back for the choices 0 to 3 and for 2^64 - 1; then the block after the call as words: 8 bytes,
 the buffer, 8 bytes, zeros up to a whole word.  Before the call byte i of the block is (37 i + 11) modulo 256.
 
-`python3 tests/gen_texts.py` prints how many there are, how many are refused, and the calls by number.
+How many there are, how many are refused, and the calls by number are printed; `python3 tests/gen_texts.py` prints no more
+than that.
 """
 
 import os
@@ -252,9 +253,19 @@ def made_run():
     return run, counted(made, run.lines)
 
 
+def shown(counts):
+    """Three lines a person reads."""
+    yield "%d texts, %d of them refused with 16; %d tables" % counts[:3]
+    for function, name in ((READ, "reading"), (WRITE, "writing")):
+        numbers = sorted(number for which, number in counts.numbers if which == function)
+        times = ["%d times %d" % (counts.numbers[function, number], number) for number in numbers]
+        yield "calls, %s: %s" % (name, ", ".join(times))
+
+
 def runs():
     """Enough texts, half of them refused; every number of both calls often; every line, and every place of a term."""
     run, counts = made_run()
+    print(*shown(counts), sep="\n")
     assert counts.texts >= 20000 and counts.refused * 2 >= counts.texts and counts.tables >= 5000, counts
     assert set(counts.numbers) == {(READ, n) for n in (0, 16, 18)} | {(WRITE, n) for n in (0, 1, 2, 17, 18)}
     assert min(counts.numbers.values()) >= 500, counts.numbers
@@ -264,14 +275,5 @@ def runs():
     yield run
 
 
-def main():
-    counts = made_run()[1]
-    print("%d texts, %d of them refused with 16; %d tables" % counts[:3])
-    for function, name in ((READ, "reading"), (WRITE, "writing")):
-        numbers = sorted(number for which, number in counts.numbers if which == function)
-        times = ["%d times %d" % (counts.numbers[function, number], number) for number in numbers]
-        print("calls, %s: %s" % (name, ", ".join(times)))
-
-
 if __name__ == "__main__":
-    main()
+    print(*shown(made_run()[1]), sep="\n")

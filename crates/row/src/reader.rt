@@ -1,4 +1,4 @@
-// The fields of a row, read off without refusing a byte; and whether some bytes stand at a place of a text.
+// The fields that a row at a place would have, read off without refusing a byte; and whether some bytes stand at a place of a text.
 ghost use mathlib.Core.Path.{_≡_};
 ghost use Prim.Native.Nat.{_+_, _<_, _≤_};
 ghost use lib.ListN.{length, getD, drop, take};
@@ -19,6 +19,7 @@ fn byte_at(text: &[u8], at: usize) -> u64
     if at < text.len() { wide(text[at]) } else { 0 }
 }
 
+// The digit that the byte there is, if it is one.
 fn figure_at(text: &[u8], at: usize) -> u64
     ensures { λ r. ⌜ r ≡ figure (getD (now (text .entry)) at 0) ⌝ }
     ensures { λ r. ⌜ r < 10 ⌝ }
@@ -27,6 +28,7 @@ fn figure_at(text: &[u8], at: usize) -> u64
     if byte < 48 { 0 } else { (byte - 48) % 10 }
 }
 
+// Whether a whole number there has one digit: a space stands behind it.
 fn short_at(text: &[u8], at: usize) -> bool
     requires { ⌜ at ≤ 8192 ⌝ }
     ensures { λ r. ⌜ r ≡ shortSmall (drop at (now (text .entry))) ⌝ }
@@ -34,6 +36,7 @@ fn short_at(text: &[u8], at: usize) -> bool
     byte_at(text, at + 1) == 32
 }
 
+// A whole number of one digit or two.
 fn small_at(text: &[u8], at: usize) -> u64
     requires { ⌜ at ≤ 8192 ⌝ }
     ensures { λ r. ⌜ r ≡ smallOf (drop at (now (text .entry))) ⌝ }
@@ -46,6 +49,7 @@ fn small_at(text: &[u8], at: usize) -> u64
     }
 }
 
+// Where the field behind it begins.
 fn past_at(text: &[u8], at: usize) -> usize
     requires { ⌜ at ≤ 8192 ⌝ }
     ensures { λ r. ⌜ (r ≡ at + past (drop at (now (text .entry)))) × (r ≤ at + 3) ⌝ }
@@ -53,12 +57,14 @@ fn past_at(text: &[u8], at: usize) -> usize
     if short_at(text, at) { at + 2 } else { at + 3 }
 }
 
+// Whether a minus stands there.
 fn minus_at(text: &[u8], at: usize) -> bool
     ensures { λ r. ⌜ r ≡ signOf (drop at (now (text .entry))) ⌝ }
 {
     byte_at(text, at) == 45
 }
 
+// Where the ten digits begin, behind a minus, the 0 and the point.
 fn front_at(text: &[u8], at: usize) -> usize
     requires { ⌜ at ≤ 8192 ⌝ }
     ensures { λ r. ⌜ (r ≡ at + frontPast (drop at (now (text .entry)))) × (r ≤ at + 3) ⌝ }
@@ -66,6 +72,7 @@ fn front_at(text: &[u8], at: usize) -> usize
     if minus_at(text, at) { at + 3 } else { at + 2 }
 }
 
+// The number of ten digits.
 fn ten_at(text: &[u8], at: usize) -> u64
     requires { ⌜ at ≤ 8192 ⌝ }
     ensures { λ r. ⌜ r ≡ numberOf (drop at (now (text .entry))) 10 ⌝ }
@@ -79,6 +86,7 @@ fn ten_at(text: &[u8], at: usize) -> u64
     value
 }
 
+// The power, counted from -6, of what begins with e.
 fn power_at(text: &[u8], at: usize) -> u64
     requires { ⌜ at ≤ 8192 ⌝ }
     ensures { λ r. ⌜ r ≡ powerOf (drop at (now (text .entry))) ⌝ }
@@ -91,6 +99,7 @@ fn power_at(text: &[u8], at: usize) -> u64
     }
 }
 
+// Field by field.
 pub fn guess(text: &[u8], at: usize) -> Row
     requires { ⌜ at ≤ 4096 ⌝ }
     ensures { λ r. ⌜ r ≡ guessOf (drop at (now (text .entry))) ⌝ }

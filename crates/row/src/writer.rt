@@ -1,4 +1,4 @@
-// The writer of one row into a line of 32 bytes.
+// A row written into a line of 32 bytes, of which it takes at most 26. Each function answers the place after what it put.
 ghost use mathlib.Core.Path.{_≡_};
 ghost use mathlib.Core.List.{_∷_, []};
 ghost use Prim.Native.Nat.{_+_, _<_, _≤_};
@@ -6,6 +6,7 @@ ghost use Rattle.lent.specs.Put.{Put};
 ghost use Rattle.row.specs.Row.{Good, spaced, front, digits, tail, rowText};
 use super::Row;
 
+// A byte.
 fn put(out: &mut [u8; 32], at: usize, byte: u8) -> usize
     requires { ⌜ at < 32 ⌝ }
     ensures { λ r. ⌜ Put (now (out .entry)) at (byte ∷ []) (now (out .exit)) r ⌝ }
@@ -14,7 +15,7 @@ fn put(out: &mut [u8; 32], at: usize, byte: u8) -> usize
     at + 1
 }
 
-// A digit put.
+// A digit.
 fn put_digit(out: &mut [u8; 32], at: usize, digit: u64) -> usize
     requires { ⌜ (at < 32) × (digit < 10) ⌝ }
     ensures { λ r. ⌜ Put (now (out .entry)) at ((48 + digit) ∷ []) (now (out .exit)) r ⌝ }
