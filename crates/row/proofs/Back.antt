@@ -1,4 +1,4 @@
--- A row that is spelt reads back: the fields guessed from its bytes are its own, whatever stands behind it. So a text begins with at most one row.
+-- A row that is spelled reads back: the fields guessed from its bytes are its own, whatever stands behind it. So a text begins with at most one row.
 -- Assumes nothing.
 use Prim.Native.Nat.{ℕ, zero, suc, _+_, _-_, _/_, _%_, _^_, _≤_, _<_}
 use native.Mathlib.Nat.{pow-zero, pow-suc, div-lt-iff-lt-mul, div-add-mod', mod-eq-of-lt}
@@ -110,13 +110,17 @@ guess-back row rest g =
       power-back (row .power) rest (omega arith),
     )
 
+-- a row at the front of a text is the guess
+pub guess-only : (s : List ℕ) (row : Row) (rest : List ℕ) → Good row → s ≡ rowText row ++ rest → guessOf s ≡ row
+guess-only s row rest g e = ap guessOf e ∙ guess-back row rest g
+
 append-left : (x y z : List ℕ) → x ++ y ≡ x ++ z → y ≡ z
 append-left x y z e = sym (drop-at x y (length x) refl) ∙ ap (drop (length x)) e ∙ drop-at x z (length x) refl
 
 -- a text begins with at most one row, and so it has at most one rest
 pub one-row : (a b : Row) (x y : List ℕ) → Good a → Good b → rowText a ++ x ≡ rowText b ++ y → (a ≡ b) × (x ≡ y)
 one-row a b x y ga gb e =
-    let same : a ≡ b = sym (guess-back a x ga) ∙ ap guessOf e ∙ guess-back b y gb in
+    let same : a ≡ b = sym (guess-back a x ga) ∙ guess-only (rowText a ++ x) b y gb e in
     (same, append-left (rowText b) x y (ap (λ r. rowText r ++ x) (sym same) ∙ e))
 
 pub digits-none : (k n : ℕ) → k ≡ 0 → digits k n ≡ []

@@ -11,7 +11,7 @@ use Rattle.row.specs.declared.Row.{Row}
 use Rattle.row.specs.Row.{Good, goodRow, rowText}
 use Rattle.row.specs.Guess.{guessOf}
 use Rattle.row.specs.Standing.{NoRow}
-use Rattle.row.proofs.Back.{guess-back}
+use Rattle.row.proofs.Back.{guess-only}
 use Rattle.row.proofs.Reading.{test-good, good-test}
 
 -- what stands at the front of a text: a row, and the rest behind it
@@ -36,14 +36,10 @@ after (b ∷ bytes) (x ∷ s) = by (eqb x b) refl (after bytes s)
     by false e w = inr (λ rest k. eqb-false x b e (cc))
 
 module _ (s : List ℕ) where
-  -- a row at the front is the guess
-  guess-only : (row : Row) (rest : List ℕ) → Good row → s ≡ rowText row ++ rest → guessOf s ≡ row
-  guess-only row rest g e = ap guessOf e ∙ guess-back row rest g
-
   pub row-or-none : Begins s ⊎ NoRow s
   row-or-none = by (goodRow (guessOf s)) refl (after (rowText (guessOf s)) s)
     where
       by : (b : Bool) → goodRow (guessOf s) ≡ b → After (rowText (guessOf s)) s → Begins s ⊎ NoRow s
       by true e (inl w) = inl (record { row = guessOf s; rest = w .0; good = test-good (guessOf s) e; here = w .1 })
-      by true e (inr never) = inr (λ row rest g k. never rest (k ∙ ap (λ r. rowText r ++ rest) (sym (guess-only row rest g k))))
-      by false e w = inr (λ row rest g k. false≢true (sym e ∙ ap goodRow (guess-only row rest g k) ∙ good-test row g))
+      by true e (inr never) = inr (λ row rest g k. never rest (k ∙ ap (λ r. rowText r ++ rest) (sym (guess-only s row rest g k))))
+      by false e w = inr (λ row rest g k. false≢true (sym e ∙ ap goodRow (guess-only s row rest g k) ∙ good-test row g))

@@ -1,4 +1,4 @@
--- The reader of one row: the guess, spelt and held against the text, decides whether a row stands there. Assumes nothing.
+-- The reader of one row: the guess, spelled and held against the text, decides whether a row stands there. Assumes nothing.
 use Prim.Native.Nat.{ℕ, _+_, _≤_}
 use native.Mathlib.Nat.{zero-add}
 use native.Mathlib.Omega.{arith}
@@ -8,14 +8,14 @@ use mathlib.Core.List.{List, _++_}
 use borrow.Author.Tests.{ltb-true, leb-true, lt-ltb, le-leb}
 use lib.ListN.{length, drop, take, replicate, length-replicate}
 use lib.Seq.{sets-eq, length-sets, take-append-seam}
+use Rattle.lent.specs.Put.{Put}
+use Rattle.term.proofs.Rules.{both}
 use Rattle.row.specs.declared.Row.{Row}
 use Rattle.row.specs.declared.Found.the-variants.{At, Bad}
-use Rattle.lent.specs.Put.{Put}
 use Rattle.row.specs.Row.{Good, goodRow, rowText}
 use Rattle.row.specs.Standing.{Reads, Stands}
 use Rattle.row.specs.Guess.{guessOf}
-use Rattle.row.proofs.Back.{guess-back}
-use Rattle.term.proofs.Rules.{both}
+use Rattle.row.proofs.Back.{guess-only}
 
 pub test-good : (row : Row) → goodRow row ≡ true → Good row
 unfolding goodRow
@@ -76,11 +76,11 @@ module _ (s : List ℕ) (at : ℕ) (row : Row) where
   pub read-no : {bytes : List ℕ} {len : ℕ} → row ≡ guessOf (drop at s) → Put (replicate 32 0) 0 (rowText row) bytes len → len ≤ 32
       → Stands s at (take len bytes) false → Reads s at Bad
   read-no {bytes} {len} e p h st r rest g here =
-      let same : r ≡ row = sym (guess-back r rest g) ∙ ap guessOf (sym here) ∙ sym e in
+      let same : r ≡ row = sym (guess-only (drop at s) r rest g here) ∙ sym e in
       let y = rw (put-front-take p h .0) at st in
       y .no refl rest (here ∙ ap (λ x. rowText x ++ rest) same)
 
   pub read-none : row ≡ guessOf (drop at s) → goodRow row ≡ false → Reads s at Bad
   read-none e bad r rest g here =
-      let same : r ≡ row = sym (guess-back r rest g) ∙ ap guessOf (sym here) ∙ sym e in
+      let same : r ≡ row = sym (guess-only (drop at s) r rest g here) ∙ sym e in
       false≢true (sym bad ∙ ap goodRow (sym same) ∙ good-test r g)

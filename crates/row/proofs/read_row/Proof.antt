@@ -1,9 +1,9 @@
 -- `row::read_row` meets its contract. Assumes nothing.
 use native.Mathlib.Omega.{arith}
 use mathlib.Core.Path.{sym, subst, _∙_}
+use borrow.Author.Needs.{needs}
 use Rattle.row.specs.Standing.{Stands}
 use Rattle.row.proofs.Reading.{test-good, put-front-length, read-yes, read-no, read-none}
-use borrow.Author.Needs.{needs}
 use Rattle.row.proofs.read_row.Statement.{statement}
 use Rattle.row.proofs.read_row.Tie as tie
 

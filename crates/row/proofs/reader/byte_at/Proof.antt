@@ -1,7 +1,7 @@
 -- `row::reader::byte_at` meets its contract. Assumes nothing.
 use mathlib.Core.Path.{sym}
-use lib.ListN.{List·getD-eq-default}
 use borrow.Author.Needs.{needs}
+use lib.ListN.{List·getD-eq-default}
 use Rattle.row.proofs.reader.byte_at.Statement.{statement}
 use Rattle.row.proofs.reader.byte_at.Tie as tie
 
@@ -15,7 +15,9 @@ returns : tie.Need-returns
 returns c = search needs
 
 returns-2 : tie.Need-returns-2
-returns-2 c = let a = c .before .before .args in sym (List·getD-eq-default (a .text .now) 0 {n = a .at} (c .if1 .left))
+returns-2 c =
+    let a = c .before .before .args in
+    sym (List·getD-eq-default (a .text .now) 0 {n = a .at} (c .if1 .left))
 
 pub byte-at-spec : {M : Type 1} → statement M
 byte-at-spec = tie.close (tie.spec shared-slice-read-wide wide-requires returns returns-2)

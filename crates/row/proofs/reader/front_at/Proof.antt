@@ -1,8 +1,8 @@
 -- `row::reader::front_at` meets its contract. Assumes nothing.
-use mathlib.Core.Path.{sym, _∙_}
 use native.Mathlib.Omega.{arith}
-use Rattle.row.specs.Guess.{frontPast}
+use mathlib.Core.Path.{sym, _∙_}
 use borrow.Author.Needs.{needs}
+use Rattle.row.specs.Guess.{frontPast}
 use Rattle.row.proofs.reader.front_at.Statement.{statement}
 use Rattle.row.proofs.reader.front_at.Tie as tie
 

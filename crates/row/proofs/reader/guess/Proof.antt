@@ -1,6 +1,6 @@
 -- `row::reader::guess` meets its contract. Assumes nothing.
-use Rattle.row.proofs.Guessed.{guessed}
 use borrow.Author.Needs.{needs}
+use Rattle.row.proofs.Guessed.{guessed}
 use Rattle.row.proofs.reader.guess.Statement.{statement}
 use Rattle.row.proofs.reader.guess.Tie as tie
 

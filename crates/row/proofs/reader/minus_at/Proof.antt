@@ -1,8 +1,8 @@
 -- `row::reader::minus_at` meets its contract. Assumes nothing.
 use native.Mathlib.Nat.{add-zero}
+use borrow.Author.Needs.{needs}
 use lib.Seq.{getD-drop}
 use Rattle.row.specs.Guess.{signOf}
-use borrow.Author.Needs.{needs}
 use Rattle.row.proofs.reader.minus_at.Statement.{statement}
 use Rattle.row.proofs.reader.minus_at.Tie as tie
 

@@ -1,8 +1,8 @@
 -- `row::reader::past_at` meets its contract. Assumes nothing.
-use mathlib.Core.Path.{sym, _∙_}
 use native.Mathlib.Omega.{arith}
-use Rattle.row.specs.Guess.{past}
+use mathlib.Core.Path.{sym, _∙_}
 use borrow.Author.Needs.{needs}
+use Rattle.row.specs.Guess.{past}
 use Rattle.row.proofs.reader.past_at.Statement.{statement}
 use Rattle.row.proofs.reader.past_at.Tie as tie
 

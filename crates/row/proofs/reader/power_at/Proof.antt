@@ -1,8 +1,8 @@
 -- `row::reader::power_at` meets its contract. Assumes nothing.
-use Rattle.row.proofs.Parts.{power-minus, power-plain}
-use mathlib.Core.Path.{sym, _∙_}
 use native.Mathlib.Omega.{arith}
+use mathlib.Core.Path.{sym, _∙_}
 use borrow.Author.Needs.{needs}
+use Rattle.row.proofs.Parts.{power-minus, power-plain}
 use Rattle.row.proofs.reader.power_at.Statement.{statement}
 use Rattle.row.proofs.reader.power_at.Tie as tie
 

@@ -1,7 +1,7 @@
 -- `row::reader::short_at` meets its contract. Assumes nothing.
+use borrow.Author.Needs.{needs}
 use lib.Seq.{getD-drop}
 use Rattle.row.specs.Guess.{shortSmall}
-use borrow.Author.Needs.{needs}
 use Rattle.row.proofs.reader.short_at.Statement.{statement}
 use Rattle.row.proofs.reader.short_at.Tie as tie
 

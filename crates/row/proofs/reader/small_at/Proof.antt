@@ -1,10 +1,10 @@
 -- `row::reader::small_at` meets its contract. Assumes nothing.
 use Prim.Native.Nat.{_+_, _*_}
-use mathlib.Core.Path.{sym, ap₂, _∙_}
 use native.Mathlib.Nat.{add-zero}
+use mathlib.Core.Path.{sym, ap₂, _∙_}
+use borrow.Author.Needs.{needs}
 use lib.Seq.{getD-drop}
 use Rattle.row.specs.Guess.{smallOf}
-use borrow.Author.Needs.{needs}
 use Rattle.row.proofs.reader.small_at.Statement.{statement}
 use Rattle.row.proofs.reader.small_at.Tie as tie
 

@@ -22,7 +22,10 @@ unfolding numberOf
 loop-holds c = (omega arith, refl)
 
 mul-value : tie.Need-mul-value Inv-loop μ-loop
-mul-value c = let l = c .before in let a = l .before .before .args in omega (arith, l .loop .inv .1, number-few (drop (a .at) (a .text .now)) (l .loop .i) (omega arith))
+mul-value c =
+    let l = c .before in
+    let a = l .before .before .args in
+    omega (arith, l .loop .inv .1, number-few (drop (a .at) (a .text .now)) (l .loop .i) (omega arith))
 
 add-figure-at : tie.Need-add-figure-at Inv-loop μ-loop
 add-figure-at c = search needs
@@ -31,7 +34,10 @@ figure-at-requires : tie.Need-figure-at-requires Inv-loop μ-loop
 figure-at-requires c κs = tt
 
 add-value : tie.Need-add-value Inv-loop μ-loop
-add-value c = let l = c .before .before in let a = l .before .before .args in omega (arith, l .loop .inv .1, number-few (drop (a .at) (a .text .now)) (l .loop .i) (omega arith))
+add-value c =
+    let l = c .before .before in
+    let a = l .before .before .args in
+    omega (arith, l .loop .inv .1, number-few (drop (a .at) (a .text .now)) (l .loop .i) (omega arith))
 
 add-i : tie.Need-add-i Inv-loop μ-loop
 add-i c = search needs
@@ -41,10 +47,15 @@ loop-less c = search needs
 
 loop-again : tie.Need-loop-again Inv-loop μ-loop
 unfolding numberOf
-loop-again c = let l = c .before .before in (omega arith, rw (add-one, getD-drop, ← l .loop .inv .1, ← c .figure-at .ensures .0))
+loop-again c =
+    let l = c .before .before in
+    (omega arith, rw (add-one, getD-drop, ← l .loop .inv .1, ← c .figure-at .ensures .0))
 
 returns : tie.Need-returns Inv-loop μ-loop
-returns c = let l = c .before in let e : l .loop .i ≡ 10 = omega arith in l .loop .inv .1 ∙ ap (numberOf (drop (l .before .before .args .at) (l .before .before .args .text .now))) e
+returns c =
+    let l = c .before in
+    let e : l .loop .i ≡ 10 = omega arith in
+    l .loop .inv .1 ∙ ap (numberOf (drop (l .before .before .args .at) (l .before .before .args .text .now))) e
 
 pub ten-at-spec : {M : Type 1} → statement M
 ten-at-spec =

@@ -1,6 +1,6 @@
 -- `row::said::exact` meets its contract. Assumes nothing.
-use Rattle.row.proofs.Saying.{exact-yes, exact-no}
 use borrow.Author.Needs.{needs}
+use Rattle.row.proofs.Saying.{exact-yes, exact-no}
 use Rattle.row.proofs.said.exact.Statement.{statement}
 use Rattle.row.proofs.said.exact.Tie as tie
 

@@ -19,10 +19,14 @@ loop-holds : tie.Need-loop-holds Inv-loop μ-loop
 loop-holds c = (omega arith, omega (arith, pow-zero 10), λ j l. absurd (not-suc-le-zero l))
 
 returns : tie.Need-returns Inv-loop μ-loop
-returns c = let l = c .before .before in record { most = l .loop .inv .0; low = l .loop .inv .2; high = λ _. omega (arith, l .loop .inv .1) }
+returns c =
+    let l = c .before .before in
+    record { most = l .loop .inv .0; low = l .loop .inv .2; high = λ _. omega (arith, l .loop .inv .1) }
 
 mul-limit : tie.Need-mul-limit Inv-loop μ-loop
-mul-limit c = let l = c .before .before in omega (arith, l .loop .inv .1, pow-le-pow-right {n = 10} (omega arith) {i = l .loop .power} {j = 6} (omega arith))
+mul-limit c =
+    let l = c .before .before in
+    omega (arith, l .loop .inv .1, pow-le-pow-right {n = 10} (omega arith) {i = l .loop .power} {j = 6} (omega arith))
 
 add-power : tie.Need-add-power Inv-loop μ-loop
 add-power c = search needs
@@ -31,10 +35,14 @@ loop-less : tie.Need-loop-less Inv-loop μ-loop
 loop-less c = search needs
 
 loop-again : tie.Need-loop-again Inv-loop μ-loop
-loop-again c = let l = c .before .before in (omega arith, rw (add-one, pow-suc) (omega (arith, l .loop .inv .1)), below-more _ _ (l .loop .inv .2) (omega (arith, l .loop .inv .1)))
+loop-again c =
+    let l = c .before .before in
+    (omega arith, rw (add-one, pow-suc) (omega (arith, l .loop .inv .1)), below-more _ _ (l .loop .inv .2) (omega (arith, l .loop .inv .1)))
 
 returns-2 : tie.Need-returns-2 Inv-loop μ-loop
-returns-2 c = let l = c .before in record { most = l .loop .inv .0; low = l .loop .inv .2; high = λ k. absurd (omega arith) }
+returns-2 c =
+    let l = c .before in
+    record { most = l .loop .inv .0; low = l .loop .inv .2; high = λ k. absurd (omega arith) }
 
 pub power-of-spec : {M : Type 1} → statement M
 power-of-spec =

@@ -1,6 +1,6 @@
 -- `row::said::term_of` meets its contract. Assumes nothing.
-use Rattle.row.specs.Row.{termOf}
 use borrow.Author.Needs.{needs}
+use Rattle.row.specs.Row.{termOf}
 use Rattle.row.proofs.said.term_of.Statement.{statement}
 use Rattle.row.proofs.said.term_of.Tie as tie
 

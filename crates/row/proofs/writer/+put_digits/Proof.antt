@@ -1,10 +1,10 @@
 -- `row::writer::put_digits` meets its contract. Assumes nothing.
-use Rattle.lent.proofs.Joined.{put-none, put-same, put-then}
-use native.Mathlib.Omega.{arith}
-use Rattle.row.proofs.Back.{digits-none, digits-more}
 use Prim.Native.Nat.{ℕ, _<_}
+use native.Mathlib.Omega.{arith}
 use borrow.Fn.Kinds.{In}
 use borrow.Fn.PlainCycle.{Measures, is, falls, and}
+use Rattle.lent.proofs.Joined.{put-none, put-same, put-then}
+use Rattle.row.proofs.Back.{digits-none, digits-more}
 use Rattle.row.proofs.writer.put_digits.Reads as put-digits
 use Rattle.row.proofs.writer.put_digits.Kinds as put-digits-kinds
 use Rattle.row.proofs.writer.+put_digits.Lts-put_digits as put-digits-lts

@@ -1,8 +1,8 @@
 -- `row::writer::put_front` meets its contract. Assumes nothing.
-use Rattle.lent.proofs.Joined.{put-then}
 use native.Mathlib.Omega.{arith}
-use Rattle.row.specs.Row.{front}
 use borrow.Author.Needs.{needs}
+use Rattle.lent.proofs.Joined.{put-then}
+use Rattle.row.specs.Row.{front}
 use Rattle.row.proofs.writer.put_front.Statement.{statement}
 use Rattle.row.proofs.writer.put_front.Tie as tie
 

@@ -1,8 +1,8 @@
 -- `row::writer::put_row` meets its contract. Assumes nothing.
 use native.Mathlib.Omega.{arith}
-use Rattle.row.specs.Row.{rowText}
-use Rattle.lent.proofs.Joined.{put-then}
 use borrow.Author.Needs.{needs}
+use Rattle.lent.proofs.Joined.{put-then}
+use Rattle.row.specs.Row.{rowText}
 use Rattle.row.proofs.writer.put_row.Statement.{statement}
 use Rattle.row.proofs.writer.put_row.Tie as tie
 

@@ -1,9 +1,9 @@
 -- `row::writer::put_spaced` meets its contract. Assumes nothing.
-use Rattle.lent.proofs.Joined.{put-then}
 use native.Mathlib.Omega.{arith}
 use borrow.Author.Tests.{lt-ltb, le-ltb}
-use Rattle.row.specs.Row.{spaced, small}
 use borrow.Author.Needs.{needs}
+use Rattle.lent.proofs.Joined.{put-then}
+use Rattle.row.specs.Row.{spaced, small}
 use Rattle.row.proofs.writer.put_spaced.Statement.{statement}
 use Rattle.row.proofs.writer.put_spaced.Tie as tie
 

@@ -1,9 +1,9 @@
 -- `row::writer::put_tail` meets its contract. Assumes nothing.
-use Rattle.lent.proofs.Joined.{put-then}
 use native.Mathlib.Omega.{arith}
 use borrow.Author.Tests.{lt-ltb, le-ltb}
-use Rattle.row.specs.Row.{tail}
 use borrow.Author.Needs.{needs}
+use Rattle.lent.proofs.Joined.{put-then}
+use Rattle.row.specs.Row.{tail}
 use Rattle.row.proofs.writer.put_tail.Statement.{statement}
 use Rattle.row.proofs.writer.put_tail.Tie as tie
 

@@ -27,7 +27,9 @@ returns : tie.Need-returns Inv-loop μ-loop
 returns c = passed-full (c .before .before .loop .inv) (omega (arith, c .if1 .taken)) (c .before .loop-test .taken)
 
 read-row-requires : tie.Need-read-row-requires Inv-loop μ-loop
-read-row-requires c κs = let p = c .before .before .loop .inv in (omega (arith, p .near, p .most), p .within)
+read-row-requires c κs =
+    let p = c .before .before .loop .inv in
+    (omega (arith, p .near, p .most), p .within)
 
 enum-told : tie.Need-enum-told Inv-loop μ-loop
 enum-told c = search needs

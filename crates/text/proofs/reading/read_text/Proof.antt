@@ -1,10 +1,10 @@
 -- `text::reading::read_text` meets its contract. Assumes nothing.
 use Prim.Native.Nat.{ℕ}
 use mathlib.Core.Path.{refl, sym, subst, _∙_}
+use borrow.Author.Needs.{needs}
 use lib.ListN.{length-replicate}
 use Rattle.text.specs.Reads.{Checks}
 use Rattle.text.proofs.Delivered.{told-bytes, taken-kept, taken-fits, taken-delivered, taken-no-room}
-use borrow.Author.Needs.{needs}
 use Rattle.text.proofs.reading.read_text.Statement.{statement}
 use Rattle.text.proofs.reading.read_text.Tie as tie
 

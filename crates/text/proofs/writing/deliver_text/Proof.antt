@@ -1,11 +1,11 @@
 -- `text::writing::deliver_text` meets its contract. Assumes nothing.
 use Prim.Native.Nat.{ℕ}
 use mathlib.Core.Path.{refl, sym, subst, _∙_}
+use borrow.Author.Needs.{needs}
 use lib.ListN.{length-replicate}
 use Rattle.term.proofs.Answers.{answer-sound, sound-whole}
 use Rattle.text.specs.Writes.{SpellsOut}
 use Rattle.text.proofs.Delivered.{told-text, typed-kept, typed-fits, typed-delivered, typed-no-room}
-use borrow.Author.Needs.{needs}
 use Rattle.text.proofs.writing.deliver_text.Statement.{statement}
 use Rattle.text.proofs.writing.deliver_text.Tie as tie
 

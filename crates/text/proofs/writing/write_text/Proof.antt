@@ -1,7 +1,7 @@
 -- `text::writing::write_text` meets its contract. Assumes nothing.
 use mathlib.Core.Path.{sym, _∙_}
-use Rattle.term.proofs.Answers.{sound-answer, answer-sound}
 use borrow.Author.Needs.{needs}
+use Rattle.term.proofs.Answers.{sound-answer, answer-sound}
 use Rattle.text.proofs.writing.write_text.Statement.{statement}
 use Rattle.text.proofs.writing.write_text.Tie as tie
 
