@@ -34,7 +34,7 @@ module _ (text : List ℕ) where
   bad rows rest b more none =
       record {
         line = length rows + 1;
-        first = record { rows = rows; rest = rest; good = b .good; bytes = b .bytes; counted = refl; most = b .most; more = more; bad = none };
+        first = record { rows = rows; rest = rest; good = b .good; bytes = b .bytes; counted = refl; most = b .most; more = λ end. omega (arith, more end); bad = none };
       }
 
   one-more : (rows : List Row) (rest : List ℕ) → Behind rows rest → (w : Begins rest) → length rows < 64 → Behind (rows ++ (w .row ∷ [])) (w .rest)
