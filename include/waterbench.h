@@ -8,8 +8,8 @@
  * Each of the three checks names its width first, the count of bits of the numbers that it works with: 32 (WB_COARSE)
  * or 53 (WB_FINE).  The rules are the same, and at either width the equation's own value lies between the ends; at 53
  * bits the ends are about a million times closer together, and a call takes longer.  Take 53 where a gauge is finer
- * than the 32-bit ends: in cold water the pressure gap of a pair is more than 1,000 Pa wide at 32 bits (docs/TOLERANCES.md).
- * Where both are close enough, 32 is the quicker one.
+ * than the 32-bit ends: in cold water the pressure gap of a pair is more than 1,000 Pa wide at 32 bits
+ * (docs/TOLERANCES.md).  Where both are close enough, 32 is the quicker one.
  *
  * A call hands back ONE value of the answer, by a choice:
  *   WB_NUMBER  0 is accepted, anything else is a refusal's number (below)

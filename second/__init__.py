@@ -1,4 +1,5 @@
-"""The second program: documents 01 and 02 once more, in whole numbers, sharing nothing with the library it is held against.
+"""The second program: documents 01 and 02 once more, in whole numbers, sharing nothing with the library that it is held
+against.
 
 From the bottom up: exact, sheet, f64, bracket, exponential, logarithm, term, equation (the step rules),
 level (the equation itself), verdict, panel, bench; and text, tables typed as text, which needs term and verdict alone.

@@ -5,8 +5,8 @@ Record: function (0 reads a text, 1 writes one), room (the buffer's length in by
 Line: what the call hands back for the choices 0 to 3 and for 2^64 - 1; then the block after the call as words: 8 bytes,
 the buffer, 8 bytes, zeros up to a whole word.  Before the call byte i of the block is (37 i + 11) modulo 256.
 
-How many there are, how many are refused, and the calls by number are printed; `python3 tests/gen_texts.py` prints no more
-than that.
+Printed are how many there are, how many are refused, and the calls by number; `python3 tests/gen_texts.py` prints these
+and runs nothing.
 """
 
 import os

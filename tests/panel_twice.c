@@ -1,4 +1,5 @@
-/* Random calls of the C entries, each made twice: the two answers must be the same, and the lent bytes as before.
+/* Random calls of the three checks' C entries, each made twice: the two answers must be the same, and the lent bytes as
+ * before.
  *
  *   panel_twice CALLS DEEP [SEED]
  *
