@@ -1,0 +1,2 @@
+-- The laws of `kind`. Assumes nothing.
+pub mod Either

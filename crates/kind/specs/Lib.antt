@@ -1,0 +1,2 @@
+-- What the kinds of table differ in. Assumes nothing.
+pub mod Kind
