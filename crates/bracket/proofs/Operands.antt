@@ -79,7 +79,7 @@ whole-in-range {v} w up n h =
     record {
       width = w;
       within =
-          span-within v 20000 20000 bias (bias + 32) (round up (suc v) (nat n)) (round-spelled up v (nat n))
+          span-within v 80000 80000 bias (bias + 32) (round up (suc v) (nat n)) (round-spelled up v (nat n))
           (subst (Span bias (bias + 32)) (sym (whole-extent (round up (suc v) (nat n)) n (round-whole up v n (few-digits w h)))) (whole-span n h))
           (omega (arith, w .high))
           (omega (arith, w .high))

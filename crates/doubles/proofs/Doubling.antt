@@ -31,10 +31,10 @@ plus (fin false m e) s a c p v = (refl, v .1)
 twice : (d p c : ℕ) → d * 2 ^ p * 2 * c ≡ d * 2 ^ (p + 1) * (c * 1)
 twice d p c = rw (pow-one p) (omega arith)
 
-small : (d p c : ℕ) → d * 2 ^ p * 1 ≤ 1288 * c → d * 2 ^ (p + 1) ≤ 4096 * c
+small : (d p c : ℕ) → d * 2 ^ p * 1 ≤ 2576 * c → d * 2 ^ (p + 1) ≤ 8192 * c
 small d p c h = rw (pow-one p) (omega arith)
 
-pub doubling : (v : Float) → T (fits binary64 v) → T (positive v) → exactOf v ≼ nat 1288
+pub doubling : (v : Float) → T (fits binary64 v) → T (positive v) → exactOf v ≼ nat 2576
     → T (positive (mul binary64 v two)) × (exactOf (mul binary64 v two) ≈ exactOf v ⊗ nat 2)
 unfolding xor
 doubling v holds above low =
@@ -43,7 +43,7 @@ doubling v holds above low =
     let w = mul binary64 v two in
     let val : HasValue v false a (2 ^ 1074) = plus v (u .sign) a (2 ^ 1074) above (u .value) in
     let own : exactOf v ≈ parts false a (2 ^ 1074) = value-exact v false a (2 ^ 1074) (pow-pos 1074) val in
-    let most = ≼-parts a (2 ^ 1074) 1288 1 (pow-pos 1074) (lit< tt) (≼-trans (≈→≽ own) (≼-trans low (≈→≽ (parts-nat 1288)))) in
+    let most = ≼-parts a (2 ^ 1074) 2576 1 (pow-pos 1074) (lit< tt) (≼-trans (≈→≽ own) (≼-trans low (≈→≽ (parts-nat 2576)))) in
     let fine : u .digits * 2 ^ (u .place + 1) < 2 ^ 2098 = lt-of-le-of-lt (small (u .digits) (u .place) (2 ^ 1074) most) (lit< tt) in
     let is : HasValue (round binary64 false (a * 2) (2 ^ 1074 * 1)) false (a * 2) (2 ^ 1074 * 1) =
     round-exact binary64 false (a * 2) (2 ^ 1074 * 1) (u .digits) (u .place + 1) (lit< tt) (u .few) fine (twice (u .digits) (u .place) (2 ^ 1074)) in

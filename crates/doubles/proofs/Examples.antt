@@ -5,8 +5,9 @@ use Prim.Native.Nat.{_^_}
 use lib.IntN.{negsuc}
 use lib.Ieee.{fin, binary64, round, ofBits}
 use Rattle.exact.specs.Fraction.{nat, parts, negative, top, bottom, leq}
+use Rattle.kind.specs.Kind.{byKind}
 use Rattle.doubles.specs.Double.{exactOf}
-use Rattle.doubles.specs.Range.{within, acceptedTemperature, acceptedPairTemperature, acceptedDensity, acceptedTolerance}
+use Rattle.doubles.specs.Range.{within, acceptedTemperature, acceptedPairTemperature, acceptedDensity, acceptedTarget, acceptedTolerance}
 use Rattle.doubles.specs.Handed.{doubleOf}
 use Rattle.doubles.specs.Ratio.{ratioExponent, largestUpTo}
 use Rattle.exact.specs.Fraction.{_⊗_}
@@ -21,21 +22,21 @@ minus-zero : acceptedTolerance (ofBits binary64 0x8000_0000_0000_0000) ≡ true
 unfolding within exactOf parts nat leq ofBits
 minus-zero = refl
 
-minus-zero-density : acceptedDensity (ofBits binary64 0x8000_0000_0000_0000) ≡ false
-unfolding within exactOf parts nat leq ofBits
+minus-zero-density : acceptedDensity 38 (ofBits binary64 0x8000_0000_0000_0000) ≡ false
+unfolding byKind within exactOf parts nat leq ofBits
 minus-zero-density = refl
 
 -- 1273, the next f64 above it, and a NaN as temperatures
-next-up : acceptedTemperature (ofBits binary64 0x4093_e400_0000_0001) ≡ false
-unfolding within exactOf parts nat leq ofBits
+next-up : acceptedTemperature 38 (ofBits binary64 0x4093_e400_0000_0001) ≡ false
+unfolding byKind within exactOf parts nat leq ofBits
 next-up = refl
 
-at-end : acceptedTemperature (ofBits binary64 0x4093_e400_0000_0000) ≡ true
-unfolding within exactOf parts nat leq ofBits
+at-end : acceptedTemperature 38 (ofBits binary64 0x4093_e400_0000_0000) ≡ true
+unfolding byKind within exactOf parts nat leq ofBits
 at-end = refl
 
-no-nan : acceptedTemperature (ofBits binary64 0x7ff8_0000_0000_0000) ≡ false
-unfolding within exactOf parts nat leq ofBits
+no-nan : acceptedTemperature 38 (ofBits binary64 0x7ff8_0000_0000_0000) ≡ false
+unfolding byKind within exactOf parts nat leq ofBits
 no-nan = refl
 
 -- the pair check's temperatures (document 02, b): the f64s 273.16, the next below it, 273.05 and 273, the last two of which the other
@@ -48,12 +49,12 @@ next-down : acceptedPairTemperature (ofBits binary64 0x4071_128f_5c28_f5c2) ≡ 
 unfolding within exactOf parts nat leq ofBits
 next-down = refl
 
-cold : (acceptedPairTemperature (ofBits binary64 0x4071_10cc_cccc_cccd) ≡ false) × (acceptedTemperature (ofBits binary64 0x4071_10cc_cccc_cccd) ≡ true)
-unfolding within exactOf parts nat leq ofBits
+cold : (acceptedPairTemperature (ofBits binary64 0x4071_10cc_cccc_cccd) ≡ false) × (acceptedTemperature 38 (ofBits binary64 0x4071_10cc_cccc_cccd) ≡ true)
+unfolding byKind within exactOf parts nat leq ofBits
 cold = (refl, refl)
 
-colder : (acceptedPairTemperature (ofBits binary64 0x4071_1000_0000_0000) ≡ false) × (acceptedTemperature (ofBits binary64 0x4071_1000_0000_0000) ≡ true)
-unfolding within exactOf parts nat leq ofBits
+colder : (acceptedPairTemperature (ofBits binary64 0x4071_1000_0000_0000) ≡ false) × (acceptedTemperature 38 (ofBits binary64 0x4071_1000_0000_0000) ≡ true)
+unfolding byKind within exactOf parts nat leq ofBits
 colder = (refl, refl)
 
 minus-sign : acceptedPairTemperature (ofBits binary64 0xc071_128f_5c28_f5c3) ≡ false
@@ -64,7 +65,29 @@ no-nan-pair : acceptedPairTemperature (ofBits binary64 0x7ff8_0000_0000_0000) �
 unfolding within exactOf parts nat leq ofBits
 no-nan-pair = refl
 
--- the widest ratio of densities
-widest : ratioExponent (nat 1288) (parts false 1 1024) ≡ 20
+-- kind 58 (document 02, h): 252, the f64 next below it, 2576, the f64 next above it, 25 x 10^9 and the f64 next above it; and 252 and 2576 are
+-- none of kind 38
+coldest-58 : (acceptedTemperature 58 (ofBits binary64 0x406f_8000_0000_0000) ≡ true) × (acceptedTemperature 58 (ofBits binary64 0x406f_7fff_ffff_ffff) ≡ false)
+unfolding byKind within exactOf parts nat leq ofBits
+coldest-58 = (refl, refl)
+
+densest-58 : (acceptedDensity 58 (ofBits binary64 0x40a4_2000_0000_0000) ≡ true) × (acceptedDensity 58 (ofBits binary64 0x40a4_2000_0000_0001) ≡ false)
+unfolding byKind within exactOf parts nat leq ofBits
+densest-58 = (refl, refl)
+
+highest-58 : (acceptedTarget 58 (ofBits binary64 0x4217_4876_e800_0000) ≡ true) × (acceptedTarget 58 (ofBits binary64 0x4217_4876_e800_0001) ≡ false)
+unfolding byKind within exactOf parts nat leq ofBits
+highest-58 = (refl, refl)
+
+none-of-38 : (acceptedTemperature 38 (ofBits binary64 0x406f_8000_0000_0000) ≡ false) × (acceptedDensity 38 (ofBits binary64 0x40a4_2000_0000_0000) ≡ false)
+unfolding byKind within exactOf parts nat leq ofBits
+none-of-38 = (refl, refl)
+
+-- the widest ratios of densities of either kind
+widest-38 : ratioExponent (nat 1288) (parts false 1 1024) ≡ 20
 unfolding ratioExponent largestUpTo nat parts leq _⊗_
-widest = refl
+widest-38 = refl
+
+widest-58 : ratioExponent (nat 2576) (parts false 1 1024) ≡ 21
+unfolding ratioExponent largestUpTo nat parts leq _⊗_
+widest-58 = refl

@@ -58,11 +58,11 @@ at-least d p i h = le-trans (le-of-eq (sym (one-mul (2 ^ i)))) (mul-le-mul h (po
 at-most : (d p i : ℕ) → d < 2 ^ 53 → p ≤ 2045 → d * 2 ^ (p + i) ≤ 2 ^ (2098 + i)
 at-most d p i h k = le-trans (le-of-lt (shl-lt 53 (p + i) h)) (pow-mono {i = 53 + (p + i)} {j = 2098 + i} (omega arith))
 
-pub given-within : (up : Bool) (v : ℕ) (x : Float) → v ≤ 1000 → T (fits binary64 x) → T (finite x) → Within v 20000 20000 (round up (suc v) (exactOf x))
+pub given-within : (up : Bool) (v : ℕ) (x : Float) → v ≤ 1000 → T (fits binary64 x) → T (finite x) → Within v 80000 80000 (round up (suc v) (exactOf x))
 unfolding bias signed
 given-within up v x few holds h = go (in-units x holds h)
   where
-    go : Units x → Within v 20000 20000 (round up (suc v) (exactOf x))
+    go : Units x → Within v 80000 80000 (round up (suc v) (exactOf x))
     go u =
         let a = u .digits * 2 ^ u .place in
         let n = u .digits * 2 ^ (u .place + 261070) in
@@ -79,8 +79,8 @@ given-within up v x few holds h = go (in-units x holds h)
               (record { normal = inr (record { low = f .0; high = f .1 }); exponent = inr (above v ((roundMag d (suc v) n 1) .e) few (f .2), below v ((roundMag d (suc v) n 1) .e) (f .3)) })
         ]
       where
-        above : (v e : ℕ) → v ≤ 1000 → 261070 < suc v + e → 262144 ≤ e + 20000
+        above : (v e : ℕ) → v ≤ 1000 → 261070 < suc v + e → 262144 ≤ e + 80000
         above v e h k = omega arith
 
-        below : (v e : ℕ) → v + e ≤ 263168 → e ≤ 262144 + 20000
+        below : (v e : ℕ) → v + e ≤ 263168 → e ≤ 262144 + 80000
         below v e h = omega arith

@@ -47,17 +47,17 @@ module _ (l v : Fraction) where
         ],
       )
 
--- accepted densities: from 1/1024 to 1288
-pub few-doublings : (l v : Fraction) (k : ℕ) → parts false 1 1024 ≼ v → l ≼ nat 1288 → v ⊗ nat (2 ^ k) ≼ l → k ≤ 20
+-- accepted densities: from 1/1024 to 2576, the widest kind's
+pub few-doublings : (l v : Fraction) (k : ℕ) → parts false 1 1024 ≼ v → l ≼ nat 2576 → v ⊗ nat (2 ^ k) ≼ l → k ≤ 21
 unfolding xor
 few-doublings l v k low high h =
-    let a : parts false 1 1024 ⊗ nat (2 ^ k) ≼ nat 1288 = ≼-trans (⊗-mono-left (nat-nonneg (2 ^ k)) low) (≼-trans h high) in
+    let a : parts false 1 1024 ⊗ nat (2 ^ k) ≼ nat 2576 = ≼-trans (⊗-mono-left (nat-nonneg (2 ^ k)) low) (≼-trans h high) in
     let b : parts false 1 1024 ⊗ nat (2 ^ k) ≈ parts false (1 * 2 ^ k) 1024 = ≈-trans (⊗-cong (≈-refl (parts false 1 1024)) (≈-sym (parts-nat (2 ^ k)))) (parts-⊗ false false 1 1024 (2 ^ k) 1 (lit< tt) (lit< tt)) in
-    let c = ≼-parts (1 * 2 ^ k) 1024 1288 1 (lit< tt) (lit< tt) (≼-trans (≈→≽ b) (≼-trans a (≈→≽ (parts-nat 1288)))) in
-    le-of-suc-le-suc (pow-lt-back k 21 (omega arith))
+    let c = ≼-parts (1 * 2 ^ k) 1024 2576 1 (lit< tt) (lit< tt) (≼-trans (≈→≽ b) (≼-trans a (≈→≽ (parts-nat 2576)))) in
+    le-of-suc-le-suc (pow-lt-back k 22 (omega arith))
 
-pub ratio-largest : (l v : Fraction) → parts false 1 1024 ≼ v → l ≼ nat 1288 → v ≼ l → IsLargest l v (ratioExponent l v)
+pub ratio-largest : (l v : Fraction) → parts false 1 1024 ≼ v → l ≼ nat 2576 → v ≼ l → IsLargest l v (ratioExponent l v)
 unfolding ratioExponent
 ratio-largest l v low high h =
-    let r = up-to l v 20 (≼-trans (≈→≼ (⊗-one v)) h) in
+    let r = up-to l v 21 (≼-trans (≈→≼ (⊗-one v)) h) in
     record { within = r .0; largest = λ j k. r .1 j (few-doublings l v j low high k) k }

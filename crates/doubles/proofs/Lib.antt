@@ -1,6 +1,7 @@
 -- Laws that the proofs of the functions share, and that other crates cite. Assumes nothing.
 pub mod Compare
 pub mod Within
+pub mod Limits
 pub mod Pattern
 pub mod Neighbours
 pub mod Read

@@ -14,11 +14,13 @@ use Rattle.exact.specs.Fraction.{nat, parts, _⊗_, _≼_, _≺_, _≈_, leq}
 use Rattle.exact.specs.Fraction.Order.{≈-refl, ≈-sym, ≈-trans, ≈-of-≡, ≈→≼, ≈→≽, ≼-trans, ≼-not-≺, ≺-≼-trans, ≺-≈-trans, ≼-by, leq-true, leq-false}
 use Rattle.exact.specs.Fraction.Parts.{nat-⊗, parts-zero, parts-pos, parts-nonneg, parts-nonpos}
 use Rattle.exact.specs.Fraction.Product.{⊗-assoc, ⊗-cong, ⊗-cong-left, ⊗-one}
+use Rattle.kind.specs.Kind.{widest}
 use Rattle.doubles.specs.Double.{exactOf}
 use Rattle.doubles.specs.Range.{acceptedDensity}
 use Rattle.doubles.specs.Ratio.{ratioExponent}
 use Rattle.doubles.proofs.Compare.{le-exact}
-use Rattle.doubles.proofs.Within.{Inside, inside}
+use Rattle.doubles.proofs.Within.{Inside}
+use Rattle.doubles.proofs.Limits.{density-inside}
 use Rattle.doubles.proofs.Doubling.{two, doubling}
 use Rattle.doubles.proofs.Largest.{largest-unique, largest-of-next, few-doublings, ratio-largest}
 
@@ -36,14 +38,14 @@ pub record Held (liquid vapour v : Float) (k : ℕ) : Type 0 where
   pub above : T (positive v)
   pub value : exactOf v ≈ exactOf vapour ⊗ nat (2 ^ k)
   pub below : exactOf v ≼ exactOf liquid
-  pub few : k ≤ 20
+  pub few : k ≤ 21
 
-module _ (liquid vapour : Float) (l : T (acceptedDensity liquid)) (g : T (acceptedDensity vapour)) where
-  L : Inside (parts false 1 1024) (nat 1288) liquid
-  L = inside (parts false 1 1024) (nat 1288) liquid l
+module _ (liquid vapour : Float) (l : T (acceptedDensity widest liquid)) (g : T (acceptedDensity widest vapour)) where
+  L : Inside (parts false 1 1024) (nat 2576) liquid
+  L = density-inside widest liquid l
 
-  G : Inside (parts false 1 1024) (nat 1288) vapour
-  G = inside (parts false 1 1024) (nat 1288) vapour g
+  G : Inside (parts false 1 1024) (nat 2576) vapour
+  G = density-inside widest vapour g
 
   pub first : T (fits binary64 vapour) → T (leq (exactOf vapour) (exactOf liquid)) → Held liquid vapour vapour 0
   first h k =

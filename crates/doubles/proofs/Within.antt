@@ -51,6 +51,13 @@ inside low high x t =
       below = ≼-by (exactOf x) high (and-r a b both);
     }
 
+-- a wider range accepts it too
+pub from-wider : (low lower high higher : Fraction) → lower ≼ low → high ≼ higher → (x : Float) → T (within low high x) → T (within lower higher x)
+unfolding within
+from-wider low lower high higher l h x t =
+    let i = inside low high x t in
+    rw (≼-leq (≼-trans l (i .above)), ≼-leq (≼-trans (i .below) h)) (and-i (Scale.finite x) true (i .finite) tt)
+
 -- a range that starts lower accepts it too
 pub from-lower : (low lower high : Fraction) → lower ≼ low → (x : Float) → T (within low high x) → T (within lower high x)
 unfolding within

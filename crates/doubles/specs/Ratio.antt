@@ -13,9 +13,9 @@ unfoldable pub largestUpTo : Fraction → Fraction → ℕ → ℕ
 largestUpTo liquid vapour zero = 0
 largestUpTo liquid vapour (suc n) = pick (leq (vapour ⊗ nat (2 ^ suc n)) liquid) (suc n) (largestUpTo liquid vapour n)
 
--- accepted densities are less than 2^21 apart
+-- accepted densities of either kind are less than 2^22 apart
 unfoldable pub ratioExponent : Fraction → Fraction → ℕ
-ratioExponent liquid vapour = largestUpTo liquid vapour 20
+ratioExponent liquid vapour = largestUpTo liquid vapour 21
 
 pub record IsLargest (liquid vapour : Fraction) (k : ℕ) : Type 0 where
   pub within : vapour ⊗ nat (2 ^ k) ≼ liquid

@@ -1,9 +1,10 @@
-// Which f64s the inputs accept, and comparisons, by exact value. Each contract is an equation with a rule of specs/.
+// Which f64s the inputs accept by the kind of table, and comparisons, by exact value. Each contract is an equation with a rule of specs/.
 ghost use mathlib.Core.Path.{_≡_};
 ghost use mathlib.Core.Bool.{not};
 ghost use lib.Dec.{T};
 ghost use lib.Ieee.Scale.{finite};
 ghost use Rattle.exact.specs.Fraction.{nat, leq};
+ghost use Rattle.kind.specs.Kind.{highest};
 ghost use Rattle.doubles.specs.Double.{exactOf};
 ghost use Rattle.doubles.specs.Range.{within, acceptedTemperature, acceptedPairTemperature, acceptedDensity, acceptedTarget, acceptedTolerance, withinTolerance};
 
@@ -17,13 +18,17 @@ pub fn lies_within(x: f64, low: f64, high: f64) -> bool
 }
 
 // The state sheet's and the density check's.
-pub fn accepts_temperature(t: f64) -> bool
-    ensures { λ r. ⌜ r ≡ acceptedTemperature t ⌝ }
+pub fn accepts_temperature(kind: u64, t: f64) -> bool
+    ensures { λ r. ⌜ r ≡ acceptedTemperature kind t ⌝ }
 {
-    lies_within(t, 273.0, 1273.0)
+    if kind == 58 {
+        lies_within(t, 252.0, 1273.0)
+    } else {
+        lies_within(t, 273.0, 1273.0)
+    }
 }
 
-// The pair check's: from the fraction 27316/100. No f64 lies from there up to the literal, so that this decides the same.
+// The pair check's, of both kinds: from the fraction 27316/100. No f64 lies from there up to the literal, so that this decides the same.
 pub fn accepts_pair_temperature(t: f64) -> bool
     ensures { λ r. ⌜ r ≡ acceptedPairTemperature t ⌝ }
 {
@@ -31,16 +36,24 @@ pub fn accepts_pair_temperature(t: f64) -> bool
 }
 
 // From 1/1024.
-pub fn accepts_density(rho: f64) -> bool
-    ensures { λ r. ⌜ r ≡ acceptedDensity rho ⌝ }
+pub fn accepts_density(kind: u64, rho: f64) -> bool
+    ensures { λ r. ⌜ r ≡ acceptedDensity kind rho ⌝ }
 {
-    lies_within(rho, 0.0009765625, 1288.0)
+    if kind == 58 {
+        lies_within(rho, 0.0009765625, 2576.0)
+    } else {
+        lies_within(rho, 0.0009765625, 1288.0)
+    }
 }
 
-pub fn accepts_target(p: f64) -> bool
-    ensures { λ r. ⌜ r ≡ acceptedTarget p ⌝ }
+pub fn accepts_target(kind: u64, p: f64) -> bool
+    ensures { λ r. ⌜ r ≡ acceptedTarget kind p ⌝ }
 {
-    lies_within(p, 0.0, 1000000000.0)
+    if kind == 58 {
+        lies_within(p, 0.0, 25000000000.0)
+    } else {
+        lies_within(p, 0.0, 1000000000.0)
+    }
 }
 
 pub fn accepts_tolerance(x: f64) -> bool
@@ -88,11 +101,15 @@ pub fn above_zero(x: f64) -> bool
 }
 
 // Refusal 8's limit on a pressure's upper end.
-pub fn above_pressure_limit(x: f64) -> bool
+pub fn above_pressure_limit(kind: u64, x: f64) -> bool
     requires { ⌜ T (finite x) ⌝ }
-    ensures { λ r. ⌜ r ≡ not (leq (exactOf x) (nat 1000000000)) ⌝ }
+    ensures { λ r. ⌜ r ≡ not (leq (exactOf x) (nat (highest kind))) ⌝ }
 {
-    above(x, 1000000000.0)
+    if kind == 58 {
+        above(x, 25000000000.0)
+    } else {
+        above(x, 1000000000.0)
+    }
 }
 
 // A gap's two ends against its tolerance.

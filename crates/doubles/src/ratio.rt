@@ -2,14 +2,15 @@
 ghost use mathlib.Core.Path.{_≡_};
 ghost use lib.Dec.{T};
 ghost use Rattle.exact.specs.Fraction.{leq};
+ghost use Rattle.kind.specs.Kind.{widest};
 ghost use Rattle.doubles.specs.Double.{exactOf};
 ghost use Rattle.doubles.specs.Range.{acceptedDensity};
 ghost use Rattle.doubles.specs.Ratio.{ratioExponent};
 
-// Doubling an f64 in this range is exact.
+// Doubling an f64 in this range is exact. Densities of either kind are taken.
 pub fn ratio_exponent(liquid: f64, vapour: f64) -> u64
-    requires { ⌜ T (acceptedDensity liquid) ⌝ }
-    requires { ⌜ T (acceptedDensity vapour) ⌝ }
+    requires { ⌜ T (acceptedDensity widest liquid) ⌝ }
+    requires { ⌜ T (acceptedDensity widest vapour) ⌝ }
     requires { ⌜ T (leq (exactOf vapour) (exactOf liquid)) ⌝ }
     ensures { λ r. ⌜ r ≡ ratioExponent (exactOf liquid) (exactOf vapour) ⌝ }
 {

@@ -1,4 +1,5 @@
 pub mod Bounds
+pub mod Falls
 pub mod Power
 pub mod Ratio
 pub mod Ring

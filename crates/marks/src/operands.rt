@@ -31,10 +31,10 @@ fn made(v: u64, neg: bool, m: u64, e: u64) -> Sheet
     if m >> v != 1 {
         return zero;
     }
-    if e < 242144 {
+    if e < 182144 {
         return zero;
     }
-    if 282144 < e {
+    if 342144 < e {
         return zero;
     }
     Sheet { neg, m, e }

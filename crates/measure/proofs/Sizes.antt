@@ -170,7 +170,7 @@ doubled-of {g} {h} s d p q = grain-doubled g h s (rw same (grain-shift g (d .tim
 
 -- ---- brackets
 
-module _ {v l h : ℕ} (w : Width v) {A : Span} (low : bias + v ≤ l + 20000) (high : h ≤ v + bias + 20000) (full : v ≤ l) where
+module _ {v l h : ℕ} (w : Width v) {A : Span} (low : bias + v ≤ l + 80000) (high : h ≤ v + bias + 80000) (full : v ≤ l) where
   pub held-of : Ordered A → Each (Sized l h) (ends (rounded (suc v) A)) → Held v (rounded (suc v) A)
   unfolding rounded
   held-of o e =

@@ -1,4 +1,4 @@
--- What the exponential's code works on, for X from 0 to 128 whose ends are zero or at least 2^-64. Assumes nothing.
+-- What the exponential's code works on, for X from 0 to 128 whose ends are zero or at least 2^-292. Assumes nothing.
 use mathlib.Core.Bool.{true}
 use Prim.Native.Nat.{ℕ, zero, suc, _≤_}
 use native.Mathlib.Omega.{arith}

@@ -1,4 +1,4 @@
--- The exponential's range, for X from 0 to 2^p whose ends are zero or at least 2^-64, where no term passes 2^t: the terms, the sum, from 1 to
+-- The exponential's range, for X from 0 to 2^p whose ends are zero or at least 2^-292, where no term passes 2^t: the terms, the sum, from 1 to
 -- 2^(t + 9), and the answer, from 2^-(t + 9) to 1. Over the count of bits suc v. Assumes nothing.
 use mathlib.Core.Path.{_≡_, ap, _∙_}
 use Prim.Native.Nat.{ℕ, zero, suc, _+_, _-_, _*_, _^_, _≤_, _<_}
@@ -26,7 +26,7 @@ use Rattle.measure.proofs.Lift.{each-map}
 use Rattle.measure.proofs.Measure.{nat-sized, sized-in}
 use Rattle.measure.proofs.Sizes.{Positive, Plus, divided-plus}
 use Rattle.exact.specs.Fraction.Parts.{nat-pos}
-use Rattle.series.proofs.Rise.{log, log-least, rise, rise-64}
+use Rattle.series.proofs.Rise.{log, log-least, rise, rise-1, rise-128}
 use Rattle.measure.proofs.Lift.{over-both, rounded-both}
 use Rattle.measure.proofs.Measure.{⊘-sized, round-sized, digited-sized}
 use Rattle.measure.proofs.Sizes.{given-sized, times-sized, digits-sized}
@@ -55,26 +55,26 @@ divided-whole v {la} {ha} {lb} {hb} {l} {h} i j a b =
 one-sized : Sized bias (bias + 0) (nat 1)
 one-sized = nat-sized bias (bias + 0) 1 (omega arith) (let h = pow-mono {i = bias} {j = bias + 0} (omega arith) in omega arith)
 
-module _ (v p t : ℕ) {X : Span} (o : Ordered X) (above : nat 0 ≼ X .low) (x : Each (Sized (bias - 64) (bias + p)) X) (peak : (k : ℕ) → k ≤ 256 → rise p k ≤ t) where
-  -- ---- terms: each step falls by at most 72 places
-  product-from : {T : Span} (k r : ℕ) → k ≤ 256 → Each (Sized (bias - 72 * k) (bias + r)) T → Each (Sized (bias - 72 * k - 64) (bias + r + p)) (ends (times (suc v) T X))
+module _ (v p t : ℕ) {X : Span} (o : Ordered X) (above : nat 0 ≼ X .low) (x : Each (Sized (bias - 292) (bias + p)) X) (peak : (k : ℕ) → k ≤ 256 → rise p k ≤ t) where
+  -- ---- terms: each step falls by at most 300 places
+  product-from : {T : Span} (k r : ℕ) → k ≤ 256 → Each (Sized (bias - 300 * k) (bias + r)) T → Each (Sized (bias - 300 * k - 292) (bias + r + p)) (ends (times (suc v) T X))
   product-from k r h s = digits-sized (times-sized v (omega (arith, bias-room)) (omega arith) s x)
 
-  term-from : {P : Span} (k r : ℕ) → k < 256 → Each (Sized (bias - 72 * k - 64) (bias + r + p)) P
-      → Each (Sized (bias - 72 * suc k) (bias + (r + p - log (suc k)))) (ends (divided (suc v) P (whole (suc k))))
+  term-from : {P : Span} (k r : ℕ) → k < 256 → Each (Sized (bias - 300 * k - 292) (bias + r + p)) P
+      → Each (Sized (bias - 300 * suc k) (bias + (r + p - log (suc k)))) (ends (divided (suc v) P (whole (suc k))))
   term-from k r h s =
       divided-whole v (omega (arith, bias-room)) (omega arith) s
       (powers-between (suc k) (log (suc k)) 8 (zero-lt-suc k) (log-least (suc k) (zero-lt-suc k)) h)
 
-  expTerm-grown : (k : ℕ) → k ≤ 256 → Each (Sized (bias - 72 * k) (bias + rise p k)) (ends (expTerm (suc v) X k))
+  expTerm-grown : (k : ℕ) → k ≤ 256 → Each (Sized (bias - 300 * k) (bias + rise p k)) (ends (expTerm (suc v) X k))
   unfolding expTerm rise
   expTerm-grown zero h = each-map (λ y d. sized-in (omega arith) (omega arith) (digited-sized d)) (given-sized v one-sized)
   expTerm-grown (suc k) h = term-from k (rise p k) h (product-from k (rise p k) (omega arith) (expTerm-grown k (omega arith)))
 
-  pub expTerm-sized : (k : ℕ) → k ≤ 256 → Each (Sized (bias - 18432) (bias + t)) (ends (expTerm (suc v) X k))
+  pub expTerm-sized : (k : ℕ) → k ≤ 256 → Each (Sized (bias - 76800) (bias + t)) (ends (expTerm (suc v) X k))
   expTerm-sized k h = each-map (λ y s. sized-in (omega arith) (omega (arith, peak k h)) s) (expTerm-grown k h)
 
-  pub expProduct-sized : (k : ℕ) → k ≤ 256 → Each (Sized (bias - 18496) (bias + t + p)) (ends (times (suc v) (ends (expTerm (suc v) X k)) X))
+  pub expProduct-sized : (k : ℕ) → k ≤ 256 → Each (Sized (bias - 77092) (bias + t + p)) (ends (times (suc v) (ends (expTerm (suc v) X k)) X))
   expProduct-sized k h =
       each-map (λ y s. sized-in (omega arith) (omega (arith, peak k h)) s) (product-from k (rise p k) h (expTerm-grown k h))
 
@@ -127,7 +127,11 @@ module _ (v p t : ℕ) {X : Span} (o : Ordered X) (above : nat 0 ≼ X .low) (x 
   unfolding expneg
   answer-plus w m = divided-plus v (omega (arith, bias-room)) (omega arith) (powers-between 1 0 0 (lit≤ tt) (lit≤ tt) (lit≤ tt)) (expTotal-sized w)
 
--- for x from 2^-57 to 64: from 2^-129 to 1
-pub expneg-plus : (v : ℕ) {X : Span} → Ordered X → Each (Positive (bias - 57) (bias + 6)) X → 8 ≤ v → Each (Plus v (bias - 129) bias) (ends (expneg (suc v) X))
-expneg-plus v o x w =
-    answer-plus v 6 120 o (≺→≼ (x .low .above)) (each-map (λ y s. sized-in (omega arith) (omega arith) (s .sized)) x) rise-64 w (lit≤ tt)
+-- for x from 2^-292 to 128: from 2^-256 to 1
+pub expneg-plus : (v : ℕ) {X : Span} → Ordered X → Each (Positive (bias - 292) (bias + 7)) X → 8 ≤ v → Each (Plus v (bias - 256) bias) (ends (expneg (suc v) X))
+expneg-plus v o x w = answer-plus v 7 247 o (≺→≼ (x .low .above)) (each-map (λ y s. s .sized) x) rise-128 w (lit≤ tt)
+
+-- for x from 2^-292 to 1: from 2^-9 to 1
+pub expneg-small : (v : ℕ) {X : Span} → Ordered X → Each (Positive (bias - 292) bias) X → 8 ≤ v → Each (Plus v (bias - 9) bias) (ends (expneg (suc v) X))
+expneg-small v o x w =
+    answer-plus v 0 0 o (≺→≼ (x .low .above)) (each-map (λ y s. sized-in (le-refl _) (omega arith) (s .sized)) x) rise-1 w (lit≤ tt)

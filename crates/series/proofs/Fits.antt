@@ -46,7 +46,7 @@ value-under v s p z =
     rw z (units-≼ (extent s) (1 * 2 ^ (s .e + suc v)) (2 ^ bias) (omega arith))
 
 -- ---- brackets
-pub each-held : {v l h : ℕ} (w : Width v) (b : Bracket) → Ends (Spelled v) b → Ordered (ends b) → Each (Sized l h) (ends b) → bias + v ≤ l + 20000 → h ≤ v + bias + 20000 → v ≤ l → Held v b
+pub each-held : {v l h : ℕ} (w : Width v) (b : Bracket) → Ends (Spelled v) b → Ordered (ends b) → Each (Sized l h) (ends b) → bias + v ≤ l + 80000 → h ≤ v + bias + 80000 → v ≤ l → Held v b
 each-held w b p o s low high k =
     record {
       lo = record { width = w; within = within-of (b .lo) (s .low) (p .lo) k low high };

@@ -5,6 +5,7 @@ pub mod Fits
 pub mod Close
 pub mod Between
 pub mod ExponentialCovers
+pub mod ExponentialSame
 pub mod LogarithmCovers
 pub mod RatioCovers
 pub mod Sign

@@ -71,7 +71,7 @@ module _ (v : ℕ) (four : 4 ≤ v) (room : 42 * v + 129 ≤ bias) where
       (rounded-spelled v (point third)))
 
   -- k times ln 2
-  pub multiple-summed : (k : ℕ) → k ≤ 20 → Each (Summed v (bias - (2 * v + 2)) (5 + (bias + 22))) (ends (times (suc v) (whole k) (ends (lnTwo (suc v)))))
+  pub multiple-summed : (k : ℕ) → k ≤ 21 → Each (Summed v (bias - (2 * v + 2)) (5 + (bias + 22))) (ends (times (suc v) (whole k) (ends (lnTwo (suc v)))))
   multiple-summed k h =
       whole-times-summed v 5 k (le-trans h (lit≤ tt)) (each-map (λ x d. digited-fine (omega arith) d) lnTwo-digited)
 
@@ -88,13 +88,13 @@ module _ (v : ℕ) (four : 4 ≤ v) (room : 42 * v + 129 ≤ bias) where
         series-digited v (v + 3) (ratioZ (suc v) R) z-measured (omega arith) (ratioZ-ordered v R) (ratioZ-spelled v R)
 
     -- ---- (k times ln 2) + ln r
-    pub lnScaled-summed : k ≤ 20 → Each (Summed v (bias - (2 * v + 2)) (suc (bias + 27))) (ends (lnScaled (suc v) liquid vapour k))
+    pub lnScaled-summed : k ≤ 21 → Each (Summed v (bias - (2 * v + 2)) (suc (bias + 27))) (ends (lnScaled (suc v) liquid vapour k))
     unfolding lnScaled
     lnScaled-summed h =
         plus-summed v (each-map (λ x s. fine-in (omega arith) (omega arith) (s .fine)) (multiple-summed k h))
         (each-map (λ x d. fine-in (omega arith) (omega arith) (digited-fine {g = bias - (2 * v + 2)} (omega arith) d)) lnR-digited)
 
-pub lnRatio-summed : (v : ℕ) → 4 ≤ v → 42 * v + 129 ≤ bias → {liquid vapour : Fraction} → parts false 1 1024 ≼ vapour → liquid ≼ nat 1288 → vapour ≼ liquid
+pub lnRatio-summed : (v : ℕ) → 4 ≤ v → 42 * v + 129 ≤ bias → {liquid vapour : Fraction} → parts false 1 1024 ≼ vapour → liquid ≼ nat 2576 → vapour ≼ liquid
     → Each (Summed v (bias - (2 * v + 2)) (suc (bias + 27))) (ends (lnRatio (suc v) liquid vapour))
 unfolding lnRatio
 lnRatio-summed v four room {liquid} {vapour} g d h =

@@ -153,7 +153,7 @@ lnScaled-in v N k {liquid} {vapour} n g l p =
     plus-in v (times-in v (in-point (nat k)) (lnTwo-in v N n))
     (lnSeries-in v (ratioZ (suc v) R) (ratioZ-in v R (ratioR-above v k g p) (ratioR-in v k g liquid)) N n (zAt-nonneg r) (zAt-most r (rAt-most pos l)))
 
-pub lnRatio-in : (v N : ℕ) {liquid vapour : Fraction} → 20 ≤ N → parts false 1 1024 ≼ vapour → liquid ≼ nat 1288 → vapour ≼ liquid
+pub lnRatio-in : (v N : ℕ) {liquid vapour : Fraction} → 20 ≤ N → parts false 1 1024 ≼ vapour → liquid ≼ nat 2576 → vapour ≼ liquid
     → lnRatioAt N liquid vapour ∈ ends (lnRatio (suc v) liquid vapour)
 unfolding lnRatio lnRatioAt
 lnRatio-in v N {liquid} {vapour} n g d h =

@@ -34,22 +34,22 @@ use Rattle.series.proofs.LogarithmHeld.{held-spelled}
 use Rattle.series.proofs.LnRatioRange.{ratioR-spelled, ratioR-ordered, multiple-summed, lnRatio-summed}
 
 -- ---- densities
-density-sized : {x : Fraction} → parts false 1 1024 ≼ x → x ≼ nat 1288 → Sized (bias - 10) (bias + 11) x
+density-sized : {x : Fraction} → parts false 1 1024 ≼ x → x ≼ nat 2576 → Sized (bias - 10) (bias + 12) x
 density-sized l h =
     let e : 2 ^ bias ≡ 2 ^ (bias - 10) * 1024 = ap (λ (i : ℕ). 2 ^ i) (omega (arith, bias-room)) ∙ pow-add 2 (bias - 10) 10 in
-    let f = pow-add 2 bias 11 in
-    between-sized 1 1024 1288 1 (lit≤ tt) (lit≤ tt) (lit≤ tt) l (≼-≈-trans h (≈-sym (parts-nat 1288))) (omega arith) (omega arith)
+    let f = pow-add 2 bias 12 in
+    between-sized 1 1024 2576 1 (lit≤ tt) (lit≤ tt) (lit≤ tt) l (≼-≈-trans h (≈-sym (parts-nat 2576))) (omega arith) (omega arith)
 
-pub density-held : {v : ℕ} → Width v → {x : Fraction} → parts false 1 1024 ≼ x → x ≼ nat 1288 → Held v (given (suc v) x)
+pub density-held : {v : ℕ} → Width v → {x : Fraction} → parts false 1 1024 ≼ x → x ≼ nat 2576 → Held v (given (suc v) x)
 density-held {v} w {x} l h =
     held-of w (omega (arith, bias-room)) (omega arith) (omega (arith, bias-room)) (point-ordered x) (digits-sized (given-sized v (density-sized l h)))
 
 -- vapour times 2^k
-pub divisor-held : {v : ℕ} → Width v → {x : Fraction} (k : ℕ) → k ≤ 20 → parts false 1 1024 ≼ x → x ≼ nat 1288 → Held v (times (suc v) (ends (given (suc v) x)) (whole (2 ^ k)))
+pub divisor-held : {v : ℕ} → Width v → {x : Fraction} (k : ℕ) → k ≤ 21 → parts false 1 1024 ≼ x → x ≼ nat 2576 → Held v (times (suc v) (ends (given (suc v) x)) (whole (2 ^ k)))
 divisor-held {v} w {x} k n l h =
-    held-of {l = bias - 10} {h = bias + 31} w (omega (arith, bias-room)) (omega arith) (omega (arith, bias-room)) (over-ordered _⊗_ (ends (given (suc v) x)) (whole (2 ^ k)))
+    held-of {l = bias - 10} {h = bias + 33} w (omega (arith, bias-room)) (omega arith) (omega (arith, bias-room)) (over-ordered _⊗_ (ends (given (suc v) x)) (whole (2 ^ k)))
     (digits-sized (times-sized v (omega arith) (omega arith) (digits-sized (given-sized v (density-sized l h)))
-    (positive-sized (powers-between (2 ^ k) 0 20 (pow-pos k) (pow-pos k) (pow-mono n)))))
+    (positive-sized (powers-between (2 ^ k) 0 21 (pow-pos k) (pow-pos k) (pow-mono n)))))
 
 -- ---- r
 pub r-near : {v : ℕ} → Width v → {liquid vapour : Fraction} (k : ℕ) → parts false 1 1024 ≼ vapour → IsLargest liquid vapour k → NearOne v (ratioR (suc v) liquid vapour k)
@@ -92,13 +92,13 @@ module _ {v : ℕ} {R : Bracket} (n : NearOne v R) where
   more-above = more-positive v (omega (arith, w .low)) R low (n .held .order) high (held-spelled R (n .held)) (omega (arith, bias-room)) .low .above
 
 -- ---- k times ln 2
-pub multiple-held : {v : ℕ} → Width v → (k : ℕ) → k ≤ 20 → Held v (times (suc v) (whole k) (ends (lnTwo (suc v))))
+pub multiple-held : {v : ℕ} → Width v → (k : ℕ) → k ≤ 21 → Held v (times (suc v) (whole k) (ends (lnTwo (suc v))))
 multiple-held {v} w k h =
     held-of w (omega (arith, bias-room)) (omega arith) (omega (arith, bias-room)) (over-ordered _⊗_ (whole k) (ends (lnTwo (suc v))))
     (each-map (λ x s. fine-sized (s .fine)) (multiple-summed v (omega (arith, w .low)) (omega (arith, bias-room)) k h))
 
 -- ---- the answer
-pub lnRatio-held : {v : ℕ} → Width v → {liquid vapour : Fraction} → parts false 1 1024 ≼ vapour → liquid ≼ nat 1288 → vapour ≼ liquid → Held v (lnRatio (suc v) liquid vapour)
+pub lnRatio-held : {v : ℕ} → Width v → {liquid vapour : Fraction} → parts false 1 1024 ≼ vapour → liquid ≼ nat 2576 → vapour ≼ liquid → Held v (lnRatio (suc v) liquid vapour)
 unfolding lnRatio lnScaled
 lnRatio-held {v} w {liquid} {vapour} g d h =
     held-of w (omega (arith, bias-room)) (omega arith) (omega (arith, bias-room)) (over-ordered _⊕_ _ _)

@@ -15,7 +15,9 @@ use Rattle.sheet.specs.Range.{Width}
 use Rattle.sheet.proofs.Live.{few-digits}
 use Rattle.doubles.specs.Double.{exactOf}
 use Rattle.doubles.specs.Ratio.{ratioExponent, IsLargest}
-use Rattle.doubles.proofs.Within.{Inside, inside}
+use Rattle.kind.specs.Kind.{widest}
+use Rattle.doubles.proofs.Within.{Inside}
+use Rattle.doubles.proofs.Limits.{density-inside}
 use Rattle.doubles.proofs.Largest.{ratio-largest, few-doublings}
 use Rattle.bracket.specs.declared.Bracket.{Bracket}
 use Rattle.bracket.specs.Span.{whole}
@@ -31,11 +33,11 @@ use Rattle.series.proofs.RatioCovers.{divisor-positive}
 
 -- ---- the densities
 module _ {liquid vapour : Float} (p : Pair liquid vapour) where
-  liquid-inside : Inside (parts false 1 1024) (nat 1288) liquid
-  liquid-inside = inside (parts false 1 1024) (nat 1288) liquid (p .dense)
+  liquid-inside : Inside (parts false 1 1024) (nat 2576) liquid
+  liquid-inside = density-inside widest liquid (p .dense)
 
-  vapour-inside : Inside (parts false 1 1024) (nat 1288) vapour
-  vapour-inside = inside (parts false 1 1024) (nat 1288) vapour (p .thin)
+  vapour-inside : Inside (parts false 1 1024) (nat 2576) vapour
+  vapour-inside = density-inside widest vapour (p .thin)
 
   pub liquid-finite : T (finite liquid)
   liquid-finite = liquid-inside .finite
@@ -46,13 +48,13 @@ module _ {liquid vapour : Float} (p : Pair liquid vapour) where
   pub liquid-least : parts false 1 1024 ≼ exactOf liquid
   liquid-least = liquid-inside .above
 
-  pub liquid-most : exactOf liquid ≼ nat 1288
+  pub liquid-most : exactOf liquid ≼ nat 2576
   liquid-most = liquid-inside .below
 
   pub vapour-least : parts false 1 1024 ≼ exactOf vapour
   vapour-least = vapour-inside .above
 
-  pub vapour-most : exactOf vapour ≼ nat 1288
+  pub vapour-most : exactOf vapour ≼ nat 2576
   vapour-most = vapour-inside .below
 
   pub liquid-nonneg : nat 0 ≼ exactOf liquid
@@ -61,21 +63,21 @@ module _ {liquid vapour : Float} (p : Pair liquid vapour) where
   pub exponent-largest : IsLargest (exactOf liquid) (exactOf vapour) (ratioExponent (exactOf liquid) (exactOf vapour))
   exponent-largest = ratio-largest (exactOf liquid) (exactOf vapour) vapour-least liquid-most (≼-by (exactOf vapour) (exactOf liquid) (p .order))
 
-  pub exponent-few : ratioExponent (exactOf liquid) (exactOf vapour) ≤ 20
+  pub exponent-few : ratioExponent (exactOf liquid) (exactOf vapour) ≤ 21
   exponent-few = few-doublings (exactOf liquid) (exactOf vapour) _ vapour-least liquid-most (exponent-largest .within)
 
-pub small-power : (k : ℕ) → k ≤ 20 → 2 ^ k < 2 ^ 32
+pub small-power : (k : ℕ) → k ≤ 21 → 2 ^ k < 2 ^ 32
 small-power k h = pow-lt {i = k} {j = 32} (omega arith)
 
 -- ---- r: g, w, d and r are what the code's calls give
-module _ {v : ℕ} (width : Width v) (liquid vapour : Fraction) (k : ℕ) (few : k ≤ 20) {g w d : Bracket} (a : g ≡ given (suc v) vapour) (b : w ≡ given (suc v) (nat (2 ^ k)))
+module _ {v : ℕ} (width : Width v) (liquid vapour : Fraction) (k : ℕ) (few : k ≤ 21) {g w d : Bracket} (a : g ≡ given (suc v) vapour) (b : w ≡ given (suc v) (nat (2 ^ k)))
     (e : d ≡ times (suc v) (ends g) (ends w)) where
   divisor-is : d ≡ times (suc v) (ends (given (suc v) vapour)) (whole (2 ^ k))
   divisor-is =
       e ∙ ap₂ (λ (g w : Bracket). times (suc v) (ends g) (ends w)) a b
       ∙ times-≃ v (≃-refl (ends (given (suc v) vapour))) (given-whole v (2 ^ k) (few-digits width (small-power k few)))
 
-  pub divisor-is-held : parts false 1 1024 ≼ vapour → vapour ≼ nat 1288 → Held v d
+  pub divisor-is-held : parts false 1 1024 ≼ vapour → vapour ≼ nat 2576 → Held v d
   divisor-is-held l h = held-as divisor-is (divisor-held width k few l h)
 
   pub divisor-is-above : parts false 1 1024 ≼ vapour → nat 0 ≺ value (d .lo)
@@ -115,7 +117,7 @@ pub lnR-is : (w : ℕ) (liquid vapour : Fraction) (k : ℕ) {r z l : Bracket} �
     → l ≡ lnSeries w (ratioZ w (ratioR w liquid vapour k))
 lnR-is w liquid vapour k a b e = e ∙ ap (lnSeries w) (b ∙ ap (ratioZ w) a)
 
-pub multiple-is : {v : ℕ} → Width v → (k : ℕ) {n t m : Bracket} → k ≤ 20 → n ≡ given (suc v) (nat k) → t ≡ lnTwo (suc v) → m ≡ times (suc v) (ends n) (ends t)
+pub multiple-is : {v : ℕ} → Width v → (k : ℕ) {n t m : Bracket} → k ≤ 21 → n ≡ given (suc v) (nat k) → t ≡ lnTwo (suc v) → m ≡ times (suc v) (ends n) (ends t)
     → m ≡ times (suc v) (whole k) (ends (lnTwo (suc v)))
 multiple-is {v} w k {n} h a b e =
     e ∙ ap (λ (t : Bracket). times (suc v) (ends n) (ends t)) b ∙ times-whole v k (few-digits w (omega arith)) a (ends (lnTwo (suc v)))

@@ -1,10 +1,10 @@
--- How far the exponential's terms can rise for x to 2^p: each step by 2^p less the divisor's own power of two, so no term passes 2^120 for x to
--- 64, nor 2^247 for x to 128. Assumes nothing.
+-- How far the exponential's terms can rise for x to 2^p: each step by 2^p less the divisor's own power of two, so no term passes 1 for x to
+-- 1, nor 2^247 for x to 128. Assumes nothing.
 use mathlib.Core.Path.{_≡_, subst}
 use mathlib.Core.Logic.{⊎-elim}
 use mathlib.Core.Bool.{Bool, true, _&&_}
 use Prim.Native.Nat.{ℕ, zero, suc, _+_, _-_, _^_, _≤_, _<_}
-use native.Mathlib.Nat.{eq-or-lt-of-le}
+use native.Mathlib.Nat.{eq-or-lt-of-le, le-refl}
 use native.Mathlib.Omega.{arith}
 use lib.Dec.{T, leb, leb→le}
 use lib.Ieee.{size}
@@ -40,16 +40,14 @@ under-each p t (suc n) h k l =
     let q = both (under p t n) (leb (rise p (suc n)) t) h in
     ⊎-elim (λ e. rw e (leb→le (rise p (suc n)) t (q .1))) (λ m. under-each p t n (q .0) k (omega arith)) (eq-or-lt-of-le l)
 
-under-64 : T (under 6 120 256)
-unfolding under rise log size
-under-64 = tt
-
 under-128 : T (under 7 247 256)
 unfolding under rise log size
 under-128 = tt
 
-pub rise-64 : (k : ℕ) → k ≤ 256 → rise 6 k ≤ 120
-rise-64 = under-each 6 120 256 under-64
+pub rise-1 : (k : ℕ) → k ≤ 256 → rise 0 k ≤ 0
+unfolding rise
+rise-1 zero h = le-refl 0
+rise-1 (suc k) h = let r = rise-1 k (omega arith) in omega arith
 
 pub rise-128 : (k : ℕ) → k ≤ 256 → rise 7 k ≤ 247
 rise-128 = under-each 7 247 256 under-128

@@ -91,7 +91,7 @@ module _ (v l : ℕ) (A : Span) where
   high-unit k = high-short v 1 l A (lit≤ tt) (pow-lt {i = 0} (omega arith)) k
 
 -- the bias is far above every exponent met
-pub bias-room : 40000 ≤ bias
+pub bias-room : 100000 ≤ bias
 unfolding bias
 bias-room = lit≤ tt
 

@@ -5,15 +5,16 @@ use lib.Ieee.{Float}
 use mathlib.Core.Bool.{false}
 use Rattle.exact.specs.Fraction.{parts, leq, _≼_}
 use Rattle.sheet.specs.Number.{value}
+use Rattle.kind.specs.Kind.{widest}
 use Rattle.doubles.specs.Double.{exactOf}
 use Rattle.doubles.specs.Range.{acceptedDensity}
 use Rattle.bracket.specs.declared.Bracket.{Bracket}
 use Rattle.bracket.specs.Held.{Held}
 
--- accepted densities, the vapour's not above the liquid's
+-- accepted densities of either kind, the vapour's not above the liquid's
 pub record Pair (liquid vapour : Float) : Type 0 where
-  pub dense : T (acceptedDensity liquid)
-  pub thin : T (acceptedDensity vapour)
+  pub dense : T (acceptedDensity widest liquid)
+  pub thin : T (acceptedDensity widest vapour)
   pub order : T (leq (exactOf vapour) (exactOf liquid))
 
 -- from 1/2 to 5/2

@@ -8,13 +8,13 @@ use Rattle.measure.specs.Measure.{Sized}
 use Rattle.series.specs.declared.exponential.Terms.{Terms}
 use Rattle.series.specs.Exponential.{expTerm, expSum}
 
--- what the code takes: from 0 to 128, each end zero or at least 2^-64
+-- what the code takes: from 0 to 128, each end zero or at least 2^-292
 pub record Taken (X : Span) : Type 0 where
   pub order : X .low ≼ X .high
   pub above : nat 0 ≼ X .low
-  pub sized : Each (Sized (bias - 64) (bias + 7)) X
+  pub sized : Each (Sized (bias - 292) (bias + 7)) X
 
--- from 2^-57 to 64, as every power of a reduced density is
+-- from 2^-57 to 64, as every power of a reduced density of kind 38 is
 pub record Factor (X : Span) : Type 0 where
   pub least : parts false 1 (2 ^ 57) ≼ X .low
   pub order : X .low ≼ X .high

@@ -11,7 +11,7 @@ ghost use Rattle.series.specs.Logarithm.{ratioR, ratioZ, lnRatio};
 ghost use Rattle.series.specs.Pair.{Pair, NearOne};
 
 fn two_to(k: u64) -> u64
-    requires { ⌜ k ≤ 20 ⌝ }
+    requires { ⌜ k ≤ 21 ⌝ }
     ensures { λ r. ⌜ r ≡ 2 ^ k ⌝ }
 {
     1 << k

@@ -37,14 +37,14 @@ nothing {v} {s} r n z =
     }
 
 -- the size of m · 2^e units
-low : (v m e : ℕ) → v ≤ 52 → 2 ^ v ≤ m → 262080 - v ≤ e → 2 ^ (bias - 64) ≤ m * 2 ^ e
+low : (v m e : ℕ) → v ≤ 52 → 2 ^ v ≤ m → 261852 - v ≤ e → 2 ^ (bias - 292) ≤ m * 2 ^ e
 low v m e w h k =
     let b = bias-is in
-    let p = pow-mono {i = bias - 64} {j = v + e} (omega arith) in
+    let p = pow-mono {i = bias - 292} {j = v + e} (omega arith) in
     let q = pow-add 2 v e in
     le-trans p (le-trans (omega arith) (mul-le-mul-right (2 ^ e) h))
 
-some : {v : ℕ} {s : Sheet} → InRange v s → s .neg ≡ false → 2 ^ v ≤ s .m → 262080 - v ≤ s .e → s .m * 2 ^ s .e ≤ 2 ^ (bias + 7) → End v s
+some : {v : ℕ} {s : Sheet} → InRange v s → s .neg ≡ false → 2 ^ v ≤ s .m → 261852 - v ≤ s .e → s .m * 2 ^ s .e ≤ 2 ^ (bias + 7) → End v s
 unfolding value
 some {v} {s} r n l a t =
     record {
@@ -71,9 +71,9 @@ most w m e h k =
     le-trans r (le-trans (omega arith) p)
 
 -- below 128, and 128 itself
-module _ {v : ℕ} {s : Sheet} (r : InRange v s) (n : s .neg ≡ false) (z : s .m ≡ 0 → ⊥) (a : 262080 - v ≤ s .e) where
-  digits : Live v 20000 20000 s
-  digits = live v 20000 20000 s (r .within) z
+module _ {v : ℕ} {s : Sheet} (r : InRange v s) (n : s .neg ≡ false) (z : s .m ≡ 0 → ⊥) (a : 261852 - v ≤ s .e) where
+  digits : Live v 80000 80000 s
+  digits = live v 80000 80000 s (r .within) z
 
   pub under : s .e < 262151 - v → End v s
   under b =

@@ -6,8 +6,8 @@ use Rattle.sheet.specs.Number.{bias, value}
 use Rattle.sheet.specs.Range.{InRange}
 use Rattle.measure.specs.Measure.{Sized}
 
--- in range, not below zero, and zero or from 2^-64 to 128
+-- in range, not below zero, and zero or from 2^-292 to 128
 pub record End (v : ℕ) (s : Sheet) : Type 0 where
   pub range : InRange v s
   pub above : nat 0 ≼ value s
-  pub sized : Sized (bias - 64) (bias + 7) (value s)
+  pub sized : Sized (bias - 292) (bias + 7) (value s)

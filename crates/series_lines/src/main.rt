@@ -12,7 +12,7 @@ ghost use Rattle.bracket.specs.Rules.{ends};
 ghost use Rattle.series.specs.Terms.{Taken};
 ghost use Rattle.series_lines.specs.End.{End};
 
-// Whether the number is an end that the exponential takes: zero, or from 2^-64 to 128, which are 2^v at the places 262080 - v and 262151 - v.
+// Whether the number is an end that the exponential takes: zero, or from 2^-292 to 128, which are 2^v at the places 261852 - v and 262151 - v.
 fn usable(v: u64, s: Sheet) -> bool
     requires { ⌜ Width v ⌝ }
     ensures { λ r. ⌜ (r ≡ true → End v s) ⌝ }
@@ -28,7 +28,7 @@ fn usable(v: u64, s: Sheet) -> bool
     if m == 0 {
         return true;
     }
-    if e < 262080 - v {
+    if e < 261852 - v {
         return false;
     }
     if e == 262151 - v {
@@ -77,8 +77,8 @@ fn exponential_at(width: u64, x: Bracket) -> Bracket {
 fn logarithm(v: u64, liquid: f64, vapour: f64) -> Bracket
     requires { ⌜ Width v ⌝ }
 {
-    if doubles::range::accepts_density(liquid) {
-        if doubles::range::accepts_density(vapour) {
+    if doubles::range::accepts_density(58, liquid) {
+        if doubles::range::accepts_density(58, vapour) {
             if doubles::range::at_most(vapour, liquid) {
                 return series::ln_ratio(v, liquid, vapour);
             }

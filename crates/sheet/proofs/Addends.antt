@@ -18,7 +18,7 @@ pub record Pair (v : ℕ) (a b : Sheet) : Type 0 where
   pub full : 2 ^ v ≤ a .m
   pub small : a .m < 2 ^ suc v
   pub low : 200 ≤ a .e
-  pub high : a .e ≤ 300000
+  pub high : a .e ≤ 400000
   pub full₂ : 2 ^ v ≤ b .m
   pub small₂ : b .m < 2 ^ suc v
   pub place : b .e ≤ a .e
@@ -27,8 +27,8 @@ pub record Pair (v : ℕ) (a b : Sheet) : Type 0 where
 pub pair : (v : ℕ) (a b : Sheet) → Addends v a b → Pair v a b
 pair v a b h =
     let p : 0 < extent b = mul-pos (h .some) (pow-pos (b .e)) in
-    let x = live v 20000 20000 a (h .first .within) (λ z. none p z) in
-    let y = live v 20000 20000 b (h .second .within) (λ z. let k = h .some in omega arith) in
+    let x = live v 80000 80000 a (h .first .within) (λ z. none p z) in
+    let y = live v 80000 80000 b (h .second .within) (λ z. let k = h .some in omega arith) in
     record {
       full = x .full;
       small = x .small;

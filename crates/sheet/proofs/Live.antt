@@ -84,4 +84,4 @@ negate-within v lo hi s w = record { normal = go (w .normal); exponent = there (
     there (inr x) = inr x
 
 pub negate-range : {v : ℕ} {s : Sheet} → InRange v s → InRange v (negateSheet s)
-negate-range {v} {s} h = record { width = h .width; within = negate-within v 20000 20000 s (h .within) }
+negate-range {v} {s} h = record { width = h .width; within = negate-within v 80000 80000 s (h .within) }

@@ -1,5 +1,5 @@
 -- How large a sheet number is and how fine: measures on its size in units of 2^-bias, and the range that the operations ask for
--- (01: exponents stay between -20,000 and 20,000). Assumes nothing.
+-- (02 h: exponents may reach 80,000 either way). Assumes nothing.
 use mathlib.Core.Path.{_≡_}
 use mathlib.Core.Logic.{_⊎_}
 use Prim.Native.Nat.{ℕ, _+_, _-_, _*_, _^_, _≤_, _<_, _∣_}
@@ -33,10 +33,10 @@ pub record Width (v : ℕ) : Type 0 where
   pub high : v ≤ 52
   pub either : (v ≡ 31) ⊎ (v ≡ 52)
 
--- what the operations take: a sheet number of either width, with an exponent from -20,000 to 20,000
+-- what the operations take: a sheet number of either width, with an exponent from -80,000 to 80,000
 pub record InRange (v : ℕ) (s : Sheet) : Type 0 where
   pub width : Width v
-  pub within : Within v 20000 20000 s
+  pub within : Within v 80000 80000 s
 
 -- the value is exactly an f64: a multiple of 2^-1074 below 2^1024
 pub record Doubled (s : Sheet) : Type 0 where

@@ -118,10 +118,10 @@ pub fn usable(v: u64, s: Sheet) -> bool
     if m >> v != 1 {
         return false;
     }
-    if e < 242144 {
+    if e < 182144 {
         return false;
     }
-    e <= 282144
+    e <= 342144
 }
 
 // Whether the number may be a divisor.

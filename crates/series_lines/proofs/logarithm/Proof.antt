@@ -5,9 +5,9 @@ use borrow.Author.Needs.{needs}
 use lib.Dec.{T}
 use lib.Ieee.{Float}
 use lib.Ieee.Scale.{finite}
-use Rattle.exact.specs.Fraction.{nat, parts}
+use Rattle.kind.specs.Kind.{widest}
 use Rattle.doubles.specs.Range.{acceptedDensity}
-use Rattle.doubles.proofs.Within.{inside}
+use Rattle.doubles.proofs.Limits.{density-inside}
 use Rattle.series_lines.proofs.logarithm.Statement.{statement}
 use Rattle.series_lines.proofs.logarithm.Tie as tie
 
@@ -15,8 +15,8 @@ use Rattle.series_lines.proofs.logarithm.Tie as tie
 found : {r b : Bool} → r ≡ b → r ≡ true → T b
 found e t = subst T (sym (sym e ∙ t)) tt
 
-is-finite : (x : Float) → T (acceptedDensity x) → T (finite x)
-is-finite x t = inside (parts false 1 1024) (nat 1288) x t .finite
+is-finite : (x : Float) → T (acceptedDensity widest x) → T (finite x)
+is-finite x t = density-inside widest x t .finite
 
 accepts-density-requires : tie.Need-accepts-density-requires
 accepts-density-requires c κs = search needs

@@ -27,7 +27,7 @@ digits v m h =
     let rest = mod-lt m (pow-pos v) in
     record { low = omega arith; high = omega arith }
 
-some : {v : ℕ} → Width v → (s : Sheet) → s .m / 2 ^ v ≡ 1 → 242144 ≤ s .e → s .e ≤ 282144 → InRange v s
+some : {v : ℕ} → Width v → (s : Sheet) → s .m / 2 ^ v ≡ 1 → 182144 ≤ s .e → s .e ≤ 342144 → InRange v s
 some {v} w s h c d =
     let z = bias-is in
     record { width = w; within = record { normal = inr (digits v (s .m) h); exponent = inr (omega arith, omega arith) } }
@@ -52,7 +52,7 @@ returns-4 c h = absurd (false≢true h)
 returns-5 : tie.Need-returns-5
 returns-5 c h =
     let start = c .before .before .before in
-    some (start .pre) (start .args .s) (c .before .if3 .left) (c .if4 .left) (leb-true (start .args .s .e) 282144 h)
+    some (start .pre) (start .args .s) (c .before .if3 .left) (c .if4 .left) (leb-true (start .args .s .e) 342144 h)
 
 pub usable-spec : {M : Type 1} → statement M
 usable-spec = tie.close (tie.spec returns returns-2 shr-if3 returns-3 returns-4 returns-5)

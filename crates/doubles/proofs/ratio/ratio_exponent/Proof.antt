@@ -1,4 +1,4 @@
--- `ratio::ratio_exponent` meets its contract. The loop holds the vapour's density doubled k times, at most 20 times. Assumes nothing.
+-- `ratio::ratio_exponent` meets its contract. The loop holds the vapour's density doubled k times, at most 21 times. Assumes nothing.
 use Prim.Native.Nat.{_-_}
 use mathlib.Core.Path.{sym, subst}
 use native.Mathlib.Omega.{arith}
@@ -12,7 +12,7 @@ abbrev Inv-loop : tie.InvT-loop
 Inv-loop liquid vapour v₀ k₀ v k = Held liquid vapour v k
 
 abbrev μ-loop : tie.MeasureT-loop
-μ-loop liquid vapour v₀ k₀ v k = 21 - k
+μ-loop liquid vapour v₀ k₀ v k = 22 - k
 
 loop-holds : tie.Need-loop-holds Inv-loop μ-loop
 loop-holds c = first (c .args .liquid) (c .args .vapour) (c .pre .0) (c .pre .1 .0) (subst T (sym (c .good .1 .0 .1)) tt) (c .pre .1 .1)

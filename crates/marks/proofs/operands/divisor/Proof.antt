@@ -16,7 +16,7 @@ use Rattle.marks.proofs.operands.divisor.Statement.{statement}
 use Rattle.marks.proofs.operands.divisor.Tie as tie
 
 -- digits at a place in range, without a sign
-plain : (v m e : ℕ) → Width v → Live v 20000 20000 (record { neg = false; m = m; e = e })
+plain : (v m e : ℕ) → Width v → Live v 80000 80000 (record { neg = false; m = m; e = e })
     → InRange v (record { neg = false; m = m; e = e }) × (nat 0 ≺ value (record { neg = false; m = m; e = e }))
 unfolding value
 plain v m e w h = (
@@ -68,7 +68,7 @@ returns-2 : tie.Need-returns-2
 returns-2 c =
     let r = c .before .made .result in
     let a = c .before .before .before .before .before in
-    let h = live (a .args .v) 20000 20000 r (c .before .made .ensures .within) (c .if1 .left) in
+    let h = live (a .args .v) 80000 80000 r (c .before .made .ensures .within) (c .if1 .left) in
     plain (a .args .v) (r .m) (r .e) (a .pre .0) (record { full = h .full; small = h .small; low = h .low; high = h .high })
 
 pub divisor-spec : {M : Type 1} → statement M

@@ -15,8 +15,8 @@ use lib.Ieee.{Float}
 use Rattle.series.proofs.ratio.ratio_r.Statement.{statement}
 use Rattle.series.proofs.ratio.ratio_r.Tie as tie
 
-few : {liquid vapour : Float} {k : ℕ} → Pair liquid vapour → k ≡ ratioExponent (exactOf liquid) (exactOf vapour) → k ≤ 20
-few p e = subst (λ (k : ℕ). k ≤ 20) (sym e) (exponent-few p)
+few : {liquid vapour : Float} {k : ℕ} → Pair liquid vapour → k ≡ ratioExponent (exactOf liquid) (exactOf vapour) → k ≤ 21
+few p e = subst (λ (k : ℕ). k ≤ 21) (sym e) (exponent-few p)
 
 power-is : (w k : ℕ) {n : ℕ} {b : Bracket} → b ≡ given w (nat n) → n ≡ 2 ^ k → b ≡ given w (nat (2 ^ k))
 power-is w k e f = e ∙ ap (λ (n : ℕ). given w (nat n)) f

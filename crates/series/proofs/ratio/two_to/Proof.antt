@@ -1,4 +1,4 @@
--- `series::ratio::two_to` meets its contract: up to 20 no place is shifted out. Assumes nothing.
+-- `series::ratio::two_to` meets its contract: up to 21 no place is shifted out. Assumes nothing.
 use mathlib.Core.Path.{_∙_}
 use Prim.Native.Nat.{_*_, _^_, _<_}
 use native.Mathlib.Nat.{mod-eq-of-lt, one-mul}

@@ -23,7 +23,7 @@ record Ranges (v : ℕ) (a : Sheet) (x : Found) : Type 0 where
   below : x .m + 1 ≤ a .m * 2
   full : x .sticky ≡ true → 2 ^ v ≤ a .m * 2 - x .m - 1
   low : 200 ≤ a .e
-  high : a .e ≤ 300000
+  high : a .e ≤ 400000
 
 ranges : (v : ℕ) (a b : Sheet) (x : Found) → Addends v a b → b .e < a .e → Aligned (b .m) (b .e) (a .e - 1) x → Ranges v a x
 ranges v a b x h l y =

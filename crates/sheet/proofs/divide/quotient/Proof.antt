@@ -18,7 +18,7 @@ record Ranges (v : ℕ) (a b : Sheet) : Type 0 where
   pos : 0 < b .m
   first : Digits v (a .m)
   second : Digits v (b .m)
-  high : a .e ≤ 300000
+  high : a .e ≤ 400000
   low : b .e + v ≤ a .e + 262143
   few : v ≤ 52
   place : a .e + 262143 - v - b .e + suc v + b .e ≡ a .e + bias
@@ -27,8 +27,8 @@ ranges : (v : ℕ) (a b : Sheet) → (InRange v a × InRange v b) × (nat 0 ≺ 
 ranges v a b h p =
     let k = above-zero b (h .1) in
     let w = h .0 .0 .width in
-    let x = live v 20000 20000 a (h .0 .0 .within) p in
-    let y = live v 20000 20000 b (h .0 .1 .within) (λ z. omega (arith, k .1)) in
+    let x = live v 80000 80000 a (h .0 .0 .within) p in
+    let y = live v 80000 80000 b (h .0 .1 .within) (λ z. omega (arith, k .1)) in
     let z = bias-is in
     record {
       plain = k .0;

@@ -18,12 +18,12 @@ record Ranges (v : ℕ) (a : Sheet) : Type 0 where
   shift : a .m * 2 ^ (63 - v) % 2 ^ 64 ≡ a .m * 2 ^ (63 - v)
   top : 2 ^ 63 ≤ a .m * 2 ^ (63 - v)
   low : 200 ≤ a .e
-  high : a .e ≤ 300000
+  high : a .e ≤ 400000
 
 ranges : (v : ℕ) (a : Sheet) → InRange v a → (a .m ≡ 0 → ⊥) → Ranges v a
 ranges v a h p =
     let w = h .width in
-    let x = live v 20000 20000 a (h .within) p in
+    let x = live v 80000 80000 a (h .within) p in
     let z = bias-is in
     record {
       shift = shl-exact (suc v) (63 - v) 64 (x .small) (omega (arith, w .high));

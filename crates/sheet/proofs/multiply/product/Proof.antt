@@ -22,12 +22,12 @@ record Ranges (v : ℕ) (a b : Sheet) : Type 0 where
   first : Digits v (a .m)
   second : Digits v (b .m)
   low : 262144 ≤ a .e + b .e
-  high : a .e + b .e ≤ 600000
+  high : a .e + b .e ≤ 800000
 
 ranges : (v : ℕ) (a b : Sheet) → InRange v a × InRange v b → (a .m ≡ 0 → ⊥) → (b .m ≡ 0 → ⊥) → Ranges v a b
 ranges v a b h p q =
-    let x = live v 20000 20000 a (h .0 .within) p in
-    let y = live v 20000 20000 b (h .1 .within) q in
+    let x = live v 80000 80000 a (h .0 .within) p in
+    let y = live v 80000 80000 b (h .1 .within) q in
     let z = bias-is in
     record {
       first = record { low = x .full; high = x .small };
