@@ -14,7 +14,8 @@ use Rattle.equation.specs.Accepted.{Temperature, Density}
 use Rattle.equation.specs.Ranged.{SumsIn, PressureIn}
 use Rattle.equation.specs.Rules.{gasHeat, densityHeat, pressureFactor, stiffnessFactor, sumsApart, pressureOf}
 use Rattle.equation.proofs.Weaker.{plus-digits, summed-digits}
-use Rattle.equation.proofs.Ranges.{room, gasHeat-plus, rho-gas, densityHeat-plus, pressureFactor-digits, pressureOf-digits, twice, one-twice, stiffnessFactor-summed, zeroth-first, sumsApart-summed, logarithm-apart}
+use Rattle.equation.proofs.Room.{room}
+use Rattle.equation.proofs.StatesRange.{gasHeat-plus, rho-gas, densityHeat-plus, pressureFactor-digits, pressureOf-digits, twice, one-twice, stiffnessFactor-summed, zeroth-first, sumsApart-summed, logarithm-apart}
 use Rattle.equation.proofs.Holds.{combined-held}
 
 pub lnRatio-held : {v : ℕ} → Width v → {liquid vapour : Fraction} → Density liquid → Density vapour → vapour ≼ liquid → Held v (lnRatio (suc v) liquid vapour)

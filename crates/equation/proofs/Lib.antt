@@ -1,13 +1,20 @@
 -- The laws of the equation. Assumes nothing.
+pub mod Room
 pub mod Short
 pub mod Small
 pub mod Covers
 pub mod Weaker
+pub mod Quarters
 pub mod Ranges
+pub mod Exponents
+pub mod Weights
+pub mod SumsRange
+pub mod StatesRange
+pub mod Clip
 pub mod Steps
 pub mod Cases
+pub mod Plain
 pub mod Holds
-pub mod Factors
 pub mod HoldsSums
 pub mod HoldsStates
 pub mod Doubled

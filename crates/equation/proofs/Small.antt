@@ -1,12 +1,13 @@
--- delta is at most 4, since 1288 is 4 times 322, so that delta to the power c is at most 64 for every c of a table. Assumes nothing.
+-- For densities to 1288, those of kind 38, delta is at most 4, since 1288 is 4 times 322, so that delta to the power c is at most 64 for every
+-- c below 4. Assumes nothing.
 use Prim.Native.Nat.{ℕ, zero, suc, _+_, _*_, _^_, _≤_, _<_}
 use native.Mathlib.Nat.{le-of-eq}
 use native.Mathlib.Omega.{arith}
 use mathlib.Core.Path.{_≡_, refl}
 use lib.Pow.{pow-add, pow-mono, pow-pos}
 use Rattle.exact.specs.Fraction.{Fraction, nat, _⊗_, _⊘_}
-use Rattle.exact.specs.Fraction.Order.{≼-trans, ≼-≈-trans, ≈-≼-trans, ≈-sym, ≺→≼}
-use Rattle.exact.specs.Fraction.Parts.{nat-≼, nat-pos, nat-⊗, nat-nonneg, parts-pos}
+use Rattle.exact.specs.Fraction.Order.{≼-trans, ≼-≈-trans, ≈-≼-trans, ≈-sym}
+use Rattle.exact.specs.Fraction.Parts.{nat-≼, nat-pos, nat-⊗, nat-nonneg}
 use Rattle.exact.specs.Fraction.Product.{⊗-nonneg, ⊗-mono}
 use Rattle.exact.specs.Fraction.Quotient.{⊘-nonneg, ⊘-≼}
 use Rattle.sheet.proofs.Laws.{down-le, up-ge}
@@ -15,7 +16,6 @@ use Rattle.bracket.specs.Span.{Span, Each}
 use Rattle.bracket.specs.Rules.{ends, rounded, power}
 use Rattle.measure.proofs.Lift.{over-both, each-map}
 use Rattle.measure.proofs.Measure.{one-few}
-use Rattle.equation.specs.Accepted.{Density}
 use Rattle.equation.specs.Ranged.{UpTo}
 use Rattle.equation.specs.Rules.{delta}
 use Rattle.equation.proofs.Short.{short-up, short-down}
@@ -54,15 +54,12 @@ power-up-to v b h (suc n) = up-to v 1 (2 * suc n) (one-few v) (over-both _⊗_ s
         }
 
 -- 1288 is 4 times 322 and has 8 digits
-pub delta-up-to : (v : ℕ) → 7 ≤ v → {rho : Fraction} → Density rho → Each (UpTo 4) (ends (delta (suc v) rho))
+pub delta-up-to : (v : ℕ) → 7 ≤ v → {rho : Fraction} → UpTo 1288 rho → Each (UpTo 4) (ends (delta (suc v) rho))
 unfolding delta
-delta-up-to v digits {rho} d = up-to v 1 2 (one-few v) (over-both _⊘_ step (up-to v 161 3 few (record { low = input; high = input })) (record { low = refl; high = refl }))
+delta-up-to v digits {rho} d = up-to v 1 2 (one-few v) (over-both _⊘_ step (up-to v 161 3 few (record { low = d; high = d })) (record { low = refl; high = refl }))
   where
     few : 161 < 2 ^ suc v
     few = omega (arith, pow-mono {i = 8} {j = suc v} (omega arith))
-
-    input : UpTo (161 * 2 ^ 3) rho
-    input = record { low = ≼-trans (≺→≼ (parts-pos 1 1024 (omega arith))) (d .thin); high = d .dense }
 
     step : (x y : Fraction) → UpTo 1288 x → y ≡ nat 322 → UpTo 4 (x ⊘ y)
     step x y p e = rw e (record { low = ⊘-nonneg (nat 322) (p .low); high = ⊘-≼ (nat-pos (omega arith)) (≼-≈-trans (p .high) (nat-⊗ 4 322)) })

@@ -2,11 +2,11 @@
 use mathlib.Core.Path.{_≡_, sym, subst, ap₂, _∙_}
 use Prim.Native.Nat.{ℕ}
 use Rattle.bracket.specs.declared.Bracket.{Bracket}
-use Rattle.bracket.specs.Rules.{ends, plus, minus, times, divided, power}
+use Rattle.bracket.specs.Rules.{ends, plus, minus, times, divided}
 use Rattle.bracket.specs.Held.{Held}
 use Rattle.term.specs.declared.Term.{Term}
 use Rattle.equation.specs.declared.Sums.{Sums}
-use Rattle.equation.specs.Rules.{factorE, termV, termW, addendsOf, addends}
+use Rattle.equation.specs.Rules.{gOf, factorE, termV, termW, addendsOf, addends}
 
 pub held-is : {v : ℕ} {a b : Bracket} → a ≡ b → Held v b → Held v a
 held-is {v} e h = subst (Held v) (sym e) h
@@ -25,7 +25,7 @@ module _ (w : ℕ) {a b c d r : Bracket} (p : a ≡ c) (q : b ≡ d) where
   divided-of e = e ∙ ap₂ (λ (x y : Bracket). divided w (ends x) (ends y)) p q
 
 -- one term: g, E, V and w in turn
-pub addends-is : (w : ℕ) (term : Term) (a b : Bracket) {g e tv tw : Bracket} {r : Sums} → g ≡ power w a (term .c) → e ≡ factorE w (term .c) g
+pub addends-is : (w : ℕ) (term : Term) (a b : Bracket) {g e tv tw : Bracket} {r : Sums} → g ≡ gOf w (term .c) (term .factor) a → e ≡ factorE w (term .c) g
     → tv ≡ termV w term a b e → tw ≡ termW w (term .d) (term .c) g → r ≡ addendsOf w (term .c) g tv tw → r ≡ addends w term a b
 unfolding addends
 addends-is w term a b p q s t u = cc

@@ -1,4 +1,4 @@
--- The constants of document 01 and a term's coefficient, as exact values. Assumes nothing.
+-- The constants of document 01, a term's coefficient and its factor, as exact values. Assumes nothing.
 use Prim.Native.Nat.{ℕ, _^_}
 use mathlib.Core.Bool.{false}
 use Rattle.exact.specs.Fraction.{Fraction, parts}
@@ -15,6 +15,10 @@ criticalDensity = 322
 -- 461.51805 J/(kg K)
 abbrev pub gasConstant : Fraction
 gasConstant = parts false 46151805 100000
+
+-- the factor of a term's exponent counts hundredths (document 02, h)
+abbrev pub hundredths : ℕ → Fraction
+hundredths factor = parts false factor 100
 
 -- the magnitude counts units of ten to the minus 16
 abbrev pub exactCoefficient : Term → Fraction

@@ -2,5 +2,7 @@
 pub mod Constants
 pub mod Itself
 pub mod Rules
+pub mod Clip
+pub mod Plain
 pub mod Accepted
 pub mod Ranged

@@ -1,17 +1,19 @@
--- The rules of document 01, "The equation, step by step", over the count of bits w: each line in 01's bracketing and order. T, rho, liquid,
--- vapour and target are the exact values of the inputs. Assumes nothing.
+-- The rules of document 01, "The equation, step by step", with the factor and the clip of document 02, h, over the count of bits w: each line
+-- in 01's bracketing and order. T, rho, liquid, vapour and target are the exact values of the inputs. Assumes nothing.
 use Prim.Native.Nat.{ℕ, zero, suc, _*_}
+use mathlib.Core.Bool.{cond}
 use mathlib.Core.List.{List}
-use Rattle.exact.specs.Fraction.{Fraction, nat}
+use Rattle.exact.specs.Fraction.{Fraction, nat, leq, least}
+use Rattle.sheet.specs.Number.{value, plainZero}
 use Rattle.term.specs.declared.Term.{Term}
 use Rattle.term.specs.Packed.{termAt, countTerms}
-use Rattle.bracket.specs.Span.{whole}
+use Rattle.bracket.specs.Span.{whole, point}
 use Rattle.bracket.specs.declared.Bracket.{Bracket}
 use Rattle.bracket.specs.Rules.{ends, given, plus, minus, times, divided, power}
 use Rattle.series.specs.Exponential.{expneg}
 use Rattle.series.specs.Logarithm.{lnRatio}
 use Rattle.equation.specs.declared.Sums.{Sums}
-use Rattle.equation.specs.Constants.{criticalTemperature, criticalDensity, gasConstant, exactCoefficient}
+use Rattle.equation.specs.Constants.{criticalTemperature, criticalDensity, gasConstant, hundredths, exactCoefficient}
 
 unfoldable pub delta : ℕ → Fraction → Bracket
 delta w rho = divided w (ends (given w rho)) (whole criticalDensity)
@@ -22,10 +24,22 @@ tau w T = divided w (ends (given w criticalTemperature)) (ends (given w T))
 unfoldable pub coefficient : ℕ → Term → Bracket
 coefficient w term = given w (exactCoefficient term)
 
--- E of a term by its c, where g is delta to the power c: for c = 0 there is no exponential, and g does not enter
+-- g, the factor times delta to the power c; for c = 0 no factor enters
+unfoldable pub scaled : ℕ → (c factor : ℕ) → Bracket → Bracket
+scaled w zero factor b = b
+scaled w (suc c) factor b = times w (ends (given w (hundredths factor))) (ends b)
+
+abbrev pub gOf : ℕ → (c factor : ℕ) → Bracket → Bracket
+gOf w c factor δ = scaled w c factor (power w δ c)
+
+-- E where g's upper end is above 128: from 0 to the rule's upper end at the smaller of 128 and g's lower end
+unfoldable pub clipped : ℕ → Bracket → Bracket
+clipped w g = record { lo = plainZero; hi = expneg w (point (least (nat 128) (value (g .lo)))) .hi }
+
+-- E of a term by its c and its g: for c = 0 there is no exponential, and g does not enter
 unfoldable pub factorE : ℕ → ℕ → Bracket → Bracket
 factorE w zero g = given w (nat 1)
-factorE w (suc c) g = expneg w (ends g)
+factorE w (suc c) g = cond (leq (value (g .hi)) (nat 128)) (expneg w (ends g)) (clipped w g)
 
 -- V
 unfoldable pub termV : ℕ → Term → (δ τ e : Bracket) → Bracket
@@ -51,10 +65,10 @@ factorS2 w (suc c) g tw = minus w (ends (factorW w tw)) (ends (times w (whole (s
 unfoldable pub addendsOf : ℕ → ℕ → (g tv tw : Bracket) → Sums
 addendsOf w c g tv tw = record { s0 = tv; s1 = times w (ends tv) (ends tw); s2 = times w (ends tv) (ends (factorS2 w c g tw)) }
 
--- the same with the term's own g, the power c of delta
+-- the same with the term's own g
 unfoldable pub addends : ℕ → Term → (δ τ : Bracket) → Sums
 addends w term δ τ =
-    let g = power w δ (term .c) in
+    let g = gOf w (term .c) (term .factor) δ in
     addendsOf w (term .c) g (termV w term δ τ (factorE w (term .c) g)) (termW w (term .d) (term .c) g)
 
 unfoldable pub plusEach : ℕ → Sums → Sums → Sums
@@ -64,13 +78,14 @@ plusEach w s a =
 unfoldable pub noSums : ℕ → Sums
 noSums w = record { s0 = given w (nat 0); s1 = given w (nat 0); s2 = given w (nat 0) }
 
--- the sums over the first n terms of the table, from zero, left to right
-unfoldable pub sumsFirst : ℕ → List ℕ → (δ τ : Bracket) → ℕ → Sums
-sumsFirst w table δ τ zero = noSums w
-sumsFirst w table δ τ (suc n) = plusEach w (sumsFirst w table δ τ n) (addends w (termAt table n) δ τ)
+-- the sums over the first n of some terms, from zero, left to right
+unfoldable pub sumsFirst : ℕ → (ℕ → Term) → (δ τ : Bracket) → ℕ → Sums
+sumsFirst w terms δ τ zero = noSums w
+sumsFirst w terms δ τ (suc n) = plusEach w (sumsFirst w terms δ τ n) (addends w (terms n) δ τ)
 
-unfoldable pub sums : ℕ → List ℕ → (T rho : Fraction) → Sums
-sums w table T rho = sumsFirst w table (delta w rho) (tau w T) (countTerms table)
+-- the sums over a table of a kind
+unfoldable pub sums : (w kind : ℕ) → List ℕ → (T rho : Fraction) → Sums
+sums w kind table T rho = sumsFirst w (termAt kind table) (delta w rho) (tau w T) (countTerms kind table)
 
 -- R times T
 unfoldable pub gasHeat : ℕ → Fraction → Bracket
@@ -101,19 +116,19 @@ stiffnessOf w T s = times w (ends (gasHeat w T)) (ends (stiffnessFactor w s))
 unfoldable pub gibbsGapOf : ℕ → (T liquid vapour : Fraction) → (l g : Sums) → Bracket
 gibbsGapOf w T liquid vapour l g = times w (ends (gasHeat w T)) (ends (plus w (ends (lnRatio w liquid vapour)) (ends (sumsApart w l g))))
 
-unfoldable pub pressure : ℕ → List ℕ → (T rho : Fraction) → Bracket
-pressure w table T rho = pressureOf w T rho (sums w table T rho)
+unfoldable pub pressure : (w kind : ℕ) → List ℕ → (T rho : Fraction) → Bracket
+pressure w kind table T rho = pressureOf w T rho (sums w kind table T rho)
 
-unfoldable pub stiffness : ℕ → List ℕ → (T rho : Fraction) → Bracket
-stiffness w table T rho = stiffnessOf w T (sums w table T rho)
+unfoldable pub stiffness : (w kind : ℕ) → List ℕ → (T rho : Fraction) → Bracket
+stiffness w kind table T rho = stiffnessOf w T (sums w kind table T rho)
 
 -- Gibbs energy of the liquid less that of the vapour
-unfoldable pub gibbsGap : ℕ → List ℕ → (T liquid vapour : Fraction) → Bracket
-gibbsGap w table T liquid vapour = gibbsGapOf w T liquid vapour (sums w table T liquid) (sums w table T vapour)
+unfoldable pub gibbsGap : (w kind : ℕ) → List ℕ → (T liquid vapour : Fraction) → Bracket
+gibbsGap w kind table T liquid vapour = gibbsGapOf w T liquid vapour (sums w kind table T liquid) (sums w kind table T vapour)
 
 -- the gaps of "Verdicts": pressure less target, and pressure of the liquid less that of the vapour
-unfoldable pub targetGap : ℕ → List ℕ → (T rho target : Fraction) → Bracket
-targetGap w table T rho target = minus w (ends (pressure w table T rho)) (ends (given w target))
+unfoldable pub targetGap : (w kind : ℕ) → List ℕ → (T rho target : Fraction) → Bracket
+targetGap w kind table T rho target = minus w (ends (pressure w kind table T rho)) (ends (given w target))
 
-unfoldable pub pressureGap : ℕ → List ℕ → (T liquid vapour : Fraction) → Bracket
-pressureGap w table T liquid vapour = minus w (ends (pressure w table T liquid)) (ends (pressure w table T vapour))
+unfoldable pub pressureGap : (w kind : ℕ) → List ℕ → (T liquid vapour : Fraction) → Bracket
+pressureGap w kind table T liquid vapour = minus w (ends (pressure w kind table T liquid)) (ends (pressure w kind table T vapour))

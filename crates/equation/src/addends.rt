@@ -1,25 +1,15 @@
 // One term's addends of the three sums, by its fields, delta and tau.
 use crate::Sums;
+use crate::exponent::factor_e;
+use crate::exponent::factor_g;
 use crate::inputs;
 use bracket::Bracket;
 use term::Term;
 ghost use mathlib.Core.Path.{_≡_};
-ghost use Prim.Native.Nat.{suc, _<_, _*_};
+ghost use Prim.Native.Nat.{suc, _<_, _≤_, _*_};
 ghost use Rattle.term.specs.Bounds.{Bounds};
-ghost use Rattle.equation.specs.Rules.{factorE, termV, termW, factorW, factorS2, addendsOf, addends};
+ghost use Rattle.equation.specs.Rules.{termV, termW, factorW, factorS2, addendsOf, addends};
 ghost use Rattle.equation.specs.Ranged.{DeltaIn, TauIn, GIn, EIn, VIn, WIn};
-
-// For c = 0 there is no exponential.
-fn factor_e(v: u64, c: u64, g: Bracket) -> Bracket
-    requires { ⌜ (c < 4) × GIn v g ⌝ }
-    ensures { λ r. ⌜ r ≡ factorE (suc v) c g ⌝ }
-{
-    if 0 < c {
-        series::expneg(v, g)
-    } else {
-        bracket::whole(v, 1)
-    }
-}
 
 fn term_v(v: u64, term: Term, delta: Bracket, tau: Bracket, e: Bracket) -> Bracket
     requires { ⌜ (Bounds term × DeltaIn v delta) × (TauIn v tau × EIn v e) ⌝ }
@@ -35,7 +25,7 @@ fn term_v(v: u64, term: Term, delta: Bracket, tau: Bracket, e: Bracket) -> Brack
 
 // For c = 0 it is d.
 fn term_w(v: u64, d: u64, c: u64, g: Bracket) -> Bracket
-    requires { ⌜ ((0 < d) × (d < 16)) × ((c < 4) × GIn v g) ⌝ }
+    requires { ⌜ ((0 < d) × (d ≤ 31)) × ((c ≤ 15) × GIn v g) ⌝ }
     ensures { λ r. ⌜ r ≡ termW (suc v) d c g ⌝ }
 {
     if c == 0 {
@@ -56,7 +46,7 @@ fn factor_w(v: u64, tw: Bracket) -> Bracket
 
 // For c = 0 the last part is absent.
 fn factor_s2(v: u64, c: u64, g: Bracket, tw: Bracket) -> Bracket
-    requires { ⌜ (c < 4) × (GIn v g × WIn v tw) ⌝ }
+    requires { ⌜ (c ≤ 15) × (GIn v g × WIn v tw) ⌝ }
     ensures { λ r. ⌜ r ≡ factorS2 (suc v) c g tw ⌝ }
 {
     if 1 <= c {
@@ -68,7 +58,7 @@ fn factor_s2(v: u64, c: u64, g: Bracket, tw: Bracket) -> Bracket
 }
 
 fn addends_of(v: u64, c: u64, g: Bracket, tv: Bracket, tw: Bracket) -> Sums
-    requires { ⌜ ((c < 4) × GIn v g) × (VIn v tv × WIn v tw) ⌝ }
+    requires { ⌜ ((c ≤ 15) × GIn v g) × (VIn v tv × WIn v tw) ⌝ }
     ensures { λ r. ⌜ r ≡ addendsOf (suc v) c g tv tw ⌝ }
 {
     let s1 = bracket::product(v, tv, tw);
@@ -82,7 +72,7 @@ pub fn addends(v: u64, term: Term, delta: Bracket, tau: Bracket) -> Sums
 {
     let c = term.c;
     let d = term.d;
-    let g = bracket::power(v, delta, c);
+    let g = factor_g(v, term, delta);
     let tv = term_v(v, term, delta, tau, factor_e(v, c, g));
     addends_of(v, c, g, tv, term_w(v, d, c, g))
 }

@@ -1,16 +1,17 @@
-// What the inputs and the constants give: delta, tau, a term's coefficient, and R times T.
+// What the inputs and the constants give: delta, tau, a term's coefficient, and R times T. Inputs of any kind are taken.
 use bracket::Bracket;
 use term::Term;
 ghost use mathlib.Core.Path.{_≡_};
 ghost use Prim.Native.Nat.{suc};
 ghost use lib.Dec.{T};
 ghost use Rattle.sheet.specs.Range.{Width};
+ghost use Rattle.kind.specs.Kind.{widest};
 ghost use Rattle.doubles.specs.Double.{exactOf};
 ghost use Rattle.doubles.specs.Range.{acceptedTemperature, acceptedDensity};
 ghost use Rattle.equation.specs.Rules.{delta, tau, coefficient, gasHeat};
 
 pub fn delta(v: u64, rho: f64) -> Bracket
-    requires { ⌜ Width v × T (acceptedDensity rho) ⌝ }
+    requires { ⌜ Width v × T (acceptedDensity widest rho) ⌝ }
     ensures { λ r. ⌜ r ≡ delta (suc v) (exactOf rho) ⌝ }
 {
     let density = bracket::given(v, rho);
@@ -19,7 +20,7 @@ pub fn delta(v: u64, rho: f64) -> Bracket
 }
 
 pub fn tau(v: u64, t: f64) -> Bracket
-    requires { ⌜ Width v × T (acceptedTemperature t) ⌝ }
+    requires { ⌜ Width v × T (acceptedTemperature widest t) ⌝ }
     ensures { λ r. ⌜ r ≡ tau (suc v) (exactOf t) ⌝ }
 {
     let critical = bracket::given_ratio(v, false, 64714, 100);
@@ -36,7 +37,7 @@ pub fn coefficient(v: u64, term: Term) -> Bracket
 }
 
 pub fn gas_heat(v: u64, t: f64) -> Bracket
-    requires { ⌜ Width v × T (acceptedTemperature t) ⌝ }
+    requires { ⌜ Width v × T (acceptedTemperature widest t) ⌝ }
     ensures { λ r. ⌜ r ≡ gasHeat (suc v) (exactOf t) ⌝ }
 {
     let gas = bracket::given_ratio(v, false, 46151805, 100000);

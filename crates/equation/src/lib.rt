@@ -1,8 +1,9 @@
-// The equation by the step rules of document 01 at 32 or 53 bits: the three sums over a table's terms in one pass, and pressure, stiffness,
+// The equation by the step rules of documents 01 and 02 (h) at 32 or 53 bits: the three sums over a table's terms in one pass, and pressure, stiffness,
 // Gibbs gap and the gaps of pressure by them. Every function's contract is the rule itself. Nothing here writes to the lent bytes.
 use bracket::Bracket;
 
 mod inputs; // inputs.rt: delta, tau, coefficient, R times T
+mod exponent; // exponent.rt: a term's g and E
 mod addends; // addends.rt: one term's addends of the three sums
 mod table; // table.rt: the sums over a table
 mod states; // states.rt: pressure, stiffness, Gibbs gap and the gaps

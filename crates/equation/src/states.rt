@@ -1,5 +1,5 @@
 // Pressure, stiffness and Gibbs gap of states by the sums over a table, and the gaps of pressure. One state takes one pass over the table, a
-// pair two: the sums are handed in.
+// pair two: the sums are handed in. Inputs of any kind are taken.
 use crate::Sums;
 use crate::inputs;
 use bracket::Bracket;
@@ -7,6 +7,7 @@ ghost use mathlib.Core.Path.{_≡_};
 ghost use Prim.Native.Nat.{suc};
 ghost use lib.Dec.{T};
 ghost use Rattle.sheet.specs.Range.{Width};
+ghost use Rattle.kind.specs.Kind.{widest};
 ghost use Rattle.doubles.specs.Double.{exactOf};
 ghost use Rattle.doubles.specs.Range.{acceptedTemperature, acceptedDensity, acceptedTarget};
 ghost use Rattle.bracket.specs.Rules.{ends, given, minus};
@@ -16,7 +17,7 @@ ghost use Rattle.equation.specs.Ranged.{SumsIn, PressureIn};
 
 // (rho times R) times T
 fn density_heat(v: u64, t: f64, rho: f64) -> Bracket
-    requires { ⌜ Width v × T (acceptedTemperature t) × T (acceptedDensity rho) ⌝ }
+    requires { ⌜ Width v × T (acceptedTemperature widest t) × T (acceptedDensity widest rho) ⌝ }
     ensures { λ r. ⌜ r ≡ densityHeat (suc v) (exactOf t) (exactOf rho) ⌝ }
 {
     let density = bracket::given(v, rho);
@@ -55,7 +56,7 @@ fn sums_apart(v: u64, l: Sums, g: Sums) -> Bracket
 }
 
 pub fn pressure_of(v: u64, t: f64, rho: f64, s: Sums) -> Bracket
-    requires { ⌜ (T (acceptedTemperature t) × T (acceptedDensity rho)) × SumsIn v s ⌝ }
+    requires { ⌜ (T (acceptedTemperature widest t) × T (acceptedDensity widest rho)) × SumsIn v s ⌝ }
     ensures { λ r. ⌜ r ≡ pressureOf (suc v) (exactOf t) (exactOf rho) s ⌝ }
 {
     let heat = density_heat(v, t, rho);
@@ -63,7 +64,7 @@ pub fn pressure_of(v: u64, t: f64, rho: f64, s: Sums) -> Bracket
 }
 
 pub fn stiffness_of(v: u64, t: f64, s: Sums) -> Bracket
-    requires { ⌜ T (acceptedTemperature t) × SumsIn v s ⌝ }
+    requires { ⌜ T (acceptedTemperature widest t) × SumsIn v s ⌝ }
     ensures { λ r. ⌜ r ≡ stiffnessOf (suc v) (exactOf t) s ⌝ }
 {
     let heat = inputs::gas_heat(v, t);
@@ -72,7 +73,7 @@ pub fn stiffness_of(v: u64, t: f64, s: Sums) -> Bracket
 
 // The sums are those of the liquid and of the vapour, whose density is at most the liquid's.
 pub fn gibbs_gap_of(v: u64, t: f64, liquid: f64, vapour: f64, l: Sums, g: Sums) -> Bracket
-    requires { ⌜ T (acceptedTemperature t) × Pair liquid vapour × SumsIn v l × SumsIn v g ⌝ }
+    requires { ⌜ T (acceptedTemperature widest t) × Pair liquid vapour × SumsIn v l × SumsIn v g ⌝ }
     ensures { λ r. ⌜ r ≡ gibbsGapOf (suc v) (exactOf t) (exactOf liquid) (exactOf vapour) l g ⌝ }
 {
     let heat = inputs::gas_heat(v, t);
@@ -83,7 +84,7 @@ pub fn gibbs_gap_of(v: u64, t: f64, liquid: f64, vapour: f64, l: Sums, g: Sums) 
 
 // Pressure less target.
 pub fn target_gap_of(v: u64, p: Bracket, target: f64) -> Bracket
-    requires { ⌜ PressureIn v p × T (acceptedTarget target) ⌝ }
+    requires { ⌜ PressureIn v p × T (acceptedTarget widest target) ⌝ }
     ensures { λ r. ⌜ r ≡ minus (suc v) (ends p) (ends (given (suc v) (exactOf target))) ⌝ }
 {
     let aim = bracket::given(v, target);

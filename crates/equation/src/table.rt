@@ -1,4 +1,4 @@
-// The three sums over a table's terms: one pass, from zero, left to right.
+// The three sums over the terms of a table of either kind: one pass, from zero, left to right.
 use crate::Sums;
 use crate::addends::addends;
 use crate::inputs;
@@ -8,6 +8,7 @@ ghost use mathlib.Core.Bool.{true};
 ghost use Prim.Native.Nat.{suc, _<_};
 ghost use lib.Dec.{T};
 ghost use Rattle.sheet.specs.Range.{Width};
+ghost use Rattle.kind.specs.Kind.{widest};
 ghost use Rattle.doubles.specs.Double.{exactOf};
 ghost use Rattle.doubles.specs.Range.{acceptedTemperature, acceptedDensity};
 ghost use Rattle.term.specs.Packed.{termAt, countTerms};
@@ -38,28 +39,28 @@ fn plus_each(v: u64, s: Sums, a: Sums) -> Sums
 }
 
 // The sums with the addends of the k-th term.
-fn add_term(v: u64, table: &[u8], k: usize, delta: Bracket, tau: Bracket, s: Sums) -> Sums
-    requires { ⌜ (soundTable (now table) ≡ true) × (k < countTerms (now table)) ⌝ }
+fn add_term(v: u64, kind: u64, table: &[u8], k: usize, delta: Bracket, tau: Bracket, s: Sums) -> Sums
+    requires { ⌜ (soundTable kind (now table) ≡ true) × (k < countTerms kind (now table)) ⌝ }
     requires { ⌜ DeltaIn v delta × TauIn v tau × AllHeld v s ⌝ }
-    ensures { λ r. ⌜ r ≡ plusEach (suc v) s (addends (suc v) (termAt (now (table .entry)) k) delta tau) ⌝ }
+    ensures { λ r. ⌜ r ≡ plusEach (suc v) s (addends (suc v) (termAt kind (now (table .entry)) k) delta tau) ⌝ }
 {
-    let term = term::term_at(table, k);
+    let term = term::term_at(kind, table, k);
     let a = addends(v, term, delta, tau);
     plus_each(v, s, a)
 }
 
-pub fn sums_of(v: u64, table: &[u8], t: f64, rho: f64) -> Sums
-    requires { ⌜ soundTable (now table) ≡ true ⌝ }
-    requires { ⌜ Width v × T (acceptedTemperature t) × T (acceptedDensity rho) ⌝ }
-    ensures { λ r. ⌜ r ≡ sums (suc v) (now (table .entry)) (exactOf t) (exactOf rho) ⌝ }
+pub fn sums_of(v: u64, kind: u64, table: &[u8], t: f64, rho: f64) -> Sums
+    requires { ⌜ soundTable kind (now table) ≡ true ⌝ }
+    requires { ⌜ Width v × T (acceptedTemperature widest t) × T (acceptedDensity widest rho) ⌝ }
+    ensures { λ r. ⌜ r ≡ sums (suc v) kind (now (table .entry)) (exactOf t) (exactOf rho) ⌝ }
 {
     let delta = inputs::delta(v, rho);
     let tau = inputs::tau(v, t);
-    let count = term::count_terms(table);
+    let count = term::count_terms(kind, table);
     let mut s = no_sums(v);
     let mut i: usize = 0;
     while i < count {
-        s = add_term(v, table, i, delta, tau, s);
+        s = add_term(v, kind, table, i, delta, tau, s);
         i += 1;
     }
     s

@@ -13,8 +13,8 @@ use Rattle.equation.proofs.Holds.{part-held, factorW-held}
 use Rattle.equation.proofs.addends.factor_s2.Statement.{statement}
 use Rattle.equation.proofs.addends.factor_s2.Tie as tie
 
-square : (c : ℕ) → c < 4 → c * c ≤ 9
-square c few = let l : c ≤ 3 = omega arith in mul-le-mul l l
+square : (c : ℕ) → c ≤ 15 → c * c ≤ 225
+square c few = mul-le-mul few few
 
 mul-whole : tie.Need-mul-whole
 mul-whole c = record { fits = let s = square (c .before .args .c) (c .before .pre .0) in omega arith }

@@ -1,6 +1,5 @@
 -- `equation::addends::term_v` meets its contract. Assumes nothing.
 use mathlib.Core.Path.{refl}
-use native.Mathlib.Omega.{arith}
 use Rattle.equation.specs.Rules.{termV}
 use Rattle.equation.proofs.Steps.{held-is, times-of}
 use Rattle.equation.proofs.Holds.{delta-powers, delta-power-held, tau-powers, tau-power-held, coefficient-held, by-delta-held, by-tau-held}
@@ -14,14 +13,14 @@ power-requires : tie.Need-power-requires
 power-requires c κs =
     let a = c .before .args in
     let h = c .before .pre in
-    delta-powers (a .delta) (h .0 .1) (a .term .d) (let d = h .0 .0 .d-below in omega arith)
+    delta-powers (a .delta) (h .0 .1) (a .term .d) (h .0 .0 .d-most)
 
 product-requires : tie.Need-product-requires
 product-requires c κs =
     let a = c .before .before .args in
     let h = c .before .before .pre in (
       held-is (c .before .coefficient .ensures) (coefficient-held (h .0 .1 .held .lo .width) (a .term) (h .0 .0)),
-      held-is (c .power .ensures) (delta-power-held (a .delta) (h .0 .1) (a .term .d) (let d = h .0 .0 .d-below in omega arith)),
+      held-is (c .power .ensures) (delta-power-held (a .delta) (h .0 .1) (a .term .d) (h .0 .0 .d-most)),
     )
 
 power-requires-2 : tie.Need-power-requires-2
