@@ -39,7 +39,15 @@ fn plus_each(v: u64, s: Sums, a: Sums) -> Sums
 }
 
 // The sums with the addends of the k-th term.
-fn add_term(v: u64, kind: u64, table: &[u8], k: usize, delta: Bracket, tau: Bracket, s: Sums) -> Sums
+fn add_term(
+    v: u64,
+    kind: u64,
+    table: &[u8],
+    k: usize,
+    delta: Bracket,
+    tau: Bracket,
+    s: Sums,
+) -> Sums
     requires { ⌜ (soundTable kind (now table) ≡ true) × (k < countTerms kind (now table)) ⌝ }
     requires { ⌜ DeltaIn v delta × TauIn v tau × AllHeld v s ⌝ }
     ensures { λ r. ⌜ r ≡ plusEach (suc v) s (addends (suc v) (termAt kind (now (table .entry)) k) delta tau) ⌝ }

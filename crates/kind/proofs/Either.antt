@@ -55,6 +55,11 @@ module _ (kind : ℕ) where
   unfolding byKind
   cold-widest = by-either (λ (n : ℕ). 252 ≤ n) (omega arith) (omega arith)
 
+  -- the triple point lies above every kind's start
+  pub cold-most : coldest kind ≤ 273
+  unfolding byKind
+  cold-most = by-either (λ (n : ℕ). n ≤ 273) (omega arith) (omega arith)
+
   pub dense-widest : densest kind ≤ densest widest
   unfolding byKind
   dense-widest = by-either (λ (n : ℕ). n ≤ 2576) (omega arith) (omega arith)

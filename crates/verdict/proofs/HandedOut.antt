@@ -6,6 +6,7 @@ use native.Mathlib.Omega.{arith}
 use lib.Ieee.{Float, isNan}
 use Rattle.exact.specs.Fraction.{Fraction, nat, negate, leq, _≈_}
 use Rattle.exact.specs.Fraction.Order.{≈-sym, ≈-≼-trans, ≼-≈-trans}
+use Rattle.kind.specs.Kind.{highest}
 use Rattle.sheet.specs.Number.{value}
 use Rattle.sheet.specs.Range.{Doubled}
 use Rattle.doubles.specs.Double.{exactOf}
@@ -72,9 +73,9 @@ module _ (b : Bracket) (h : Handy b) where
 
   -- ---- the tests, on f64s that are the bracket's ends
   module _ (e : Ends) (is : e ≡ handedOut b) where
-    pub under-of : leq (exactOf (e .upper)) (nat 1000000000) ≡ underCeiling b
+    pub under-of : (kind : ℕ) → leq (exactOf (e .upper)) (nat (highest kind)) ≡ underCeiling kind b
     unfolding handedOut underCeiling
-    under-of = ap (λ (x : Ends). leq (exactOf (x .upper)) (nat 1000000000)) is ∙ leq-double (value (b .hi)) (nat 1000000000) upper-exact
+    under-of kind = ap (λ (x : Ends). leq (exactOf (x .upper)) (nat (highest kind))) is ∙ leq-double (value (b .hi)) (nat (highest kind)) upper-exact
 
     pub passes-of : (tolerance : Float) → withinTolerance (exactOf (e .lower)) (exactOf (e .upper)) (exactOf tolerance) ≡ gapPasses b tolerance
     unfolding handedOut gapPasses withinTolerance

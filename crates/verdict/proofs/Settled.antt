@@ -27,13 +27,13 @@ same-answer p = record { numbers = ap number p; places = ap place p; ends = ap h
 same-sheet : {a b : SheetAnswer} → a ≡ b → SameSheet a b
 same-sheet p = record { numbers = ap sheetNumber p; places = ap sheetPlace p; pressures = ap sheetPressure p; stiffnesses = ap sheetStiffness p }
 
-pub state-settled : (w : ℕ) (table : List ℕ) (t rho : Float) (a b : SheetAnswer) → StateStated w table t rho a → StateStated w table t rho b → SameSheet a b
-state-settled w table t rho a b p q = same-sheet (p ∙ sym q)
+pub state-settled : (w kind : ℕ) (table : List ℕ) (t rho : Float) (a b : SheetAnswer) → StateStated w kind table t rho a → StateStated w kind table t rho b → SameSheet a b
+state-settled w kind table t rho a b p q = same-sheet (p ∙ sym q)
 
-pub density-settled : (w : ℕ) (table : List ℕ) (t rho target tolerance : Float) (a b : Answer)
-    → DensityStated w table t rho target tolerance a → DensityStated w table t rho target tolerance b → SameAnswer a b
-density-settled w table t rho target tolerance a b p q = same-answer (p ∙ sym q)
+pub density-settled : (w kind : ℕ) (table : List ℕ) (t rho target tolerance : Float) (a b : Answer)
+    → DensityStated w kind table t rho target tolerance a → DensityStated w kind table t rho target tolerance b → SameAnswer a b
+density-settled w kind table t rho target tolerance a b p q = same-answer (p ∙ sym q)
 
-pub pair-settled : (w : ℕ) (table : List ℕ) (t liquid vapour pressureTolerance gibbsTolerance : Float) (a b : Answer)
-    → PairStated w table t liquid vapour pressureTolerance gibbsTolerance a → PairStated w table t liquid vapour pressureTolerance gibbsTolerance b → SameAnswer a b
-pair-settled w table t liquid vapour pressureTolerance gibbsTolerance a b p q = same-answer (p ∙ sym q)
+pub pair-settled : (w kind : ℕ) (table : List ℕ) (t liquid vapour pressureTolerance gibbsTolerance : Float) (a b : Answer)
+    → PairStated w kind table t liquid vapour pressureTolerance gibbsTolerance a → PairStated w kind table t liquid vapour pressureTolerance gibbsTolerance b → SameAnswer a b
+pair-settled w kind table t liquid vapour pressureTolerance gibbsTolerance a b p q = same-answer (p ∙ sym q)

@@ -1,4 +1,5 @@
 -- What the tests of a verdict say of the exact values, and which facts of the values they follow from. Assumes nothing.
+use Prim.Native.Nat.{ℕ}
 use mathlib.Core.Path.{_≡_, sym, _∙_, subst}
 use mathlib.Core.Bool.{Bool, true, false, not, _&&_, and-eq-true-iff}
 use mathlib.Core.Logic.{_↔_}
@@ -7,17 +8,22 @@ use lib.Ieee.{Float}
 use lib.Ieee.Scale.{finite}
 use borrow.Author.Tests.{not-true, not-false}
 use Rattle.exact.specs.Fraction.{Fraction, nat, parts, negate, _⊕_, _≼_, _≺_, leq}
-use Rattle.exact.specs.Fraction.Order.{≼-by, ≼-leq, ≺-leq, leq-true, leq-false, ≺-≼-trans}
+use Rattle.exact.specs.Fraction.Order.{≼-by, ≼-leq, ≺-leq, leq-true, leq-false, ≺-≼-trans, ≼-trans}
+use Rattle.exact.specs.Fraction.Parts.{nat-≼}
 use Rattle.exact.specs.Ends.{Within, absolute}
 use Rattle.exact.proofs.Width.{passes-within, passes-upper, passes-lower, above-width}
+use Rattle.kind.specs.Kind.{coldest, highest}
+use Rattle.kind.proofs.Either.{cold-most}
 use Rattle.sheet.specs.Number.{value}
 use Rattle.doubles.specs.Double.{exactOf}
 use Rattle.doubles.specs.Range.{acceptedTemperature, acceptedPairTemperature, acceptedDensity, acceptedTarget, acceptedTolerance, withinTolerance}
 use Rattle.doubles.proofs.Within.{inside, from-lower}
+use Rattle.doubles.proofs.Limits.{density-inside, target-inside}
 use Rattle.bracket.specs.declared.Bracket.{Bracket}
 use Rattle.bracket.specs.Span.{_∈_}
 use Rattle.bracket.specs.Rules.{ends}
 use Rattle.equation.specs.Accepted.{Temperature, Density, Target}
+use Rattle.equation.proofs.Taken.{temperature-taken, density-taken, target-taken}
 use Rattle.verdict.specs.Rules.{gapPasses, pushesBack, onSides, underCeiling}
 use Rattle.verdict.specs.Balance.{bracketWidth}
 
@@ -39,22 +45,27 @@ failed e taken = sym e ∙ not-true _ taken
 pub holds : {b : Bool} → b ≡ true → T b
 holds p = subst T (sym p) tt
 
-pub temperature-in : (t : Float) → T (acceptedTemperature t) → Temperature (exactOf t)
-temperature-in t h = let i = inside (nat 273) (nat 1273) t h in record { cold = i .above; hot = i .below }
+module _ (kind : ℕ) where
+  pub temperature-in : (t : Float) → T (acceptedTemperature kind t) → Temperature (exactOf t)
+  temperature-in = temperature-taken kind
 
--- from 273.16 is from 273
-pub above-triple-point : (t : Float) → acceptedPairTemperature t ≡ true → T (acceptedTemperature t)
-unfolding nat parts leq
-above-triple-point t h = from-lower (parts false 27316 100) (nat 273) (nat 1273) (≼-by (nat 273) (parts false 27316 100) tt) t (holds h)
+  -- from 273.16 is from the start of either kind
+  pub above-triple-point : (t : Float) → acceptedPairTemperature t ≡ true → T (acceptedTemperature kind t)
+  unfolding nat parts leq
+  above-triple-point t h =
+      from-lower (parts false 27316 100) (nat (coldest kind)) (nat 1273) (≼-trans (nat-≼ (cold-most kind)) (≼-by (nat 273) (parts false 27316 100) tt)) t (holds h)
 
-pub density-in : (rho : Float) → T (acceptedDensity rho) → Density (exactOf rho)
-density-in rho h = let i = inside (parts false 1 1024) (nat 1288) rho h in record { thin = i .above; dense = i .below }
+  pub density-in : (rho : Float) → T (acceptedDensity kind rho) → Density (exactOf rho)
+  density-in = density-taken kind
 
-pub target-in : (p : Float) → T (acceptedTarget p) → Target (exactOf p)
-target-in x h = let i = inside (nat 0) (nat 1000000000) x h in record { none = i .above; most = i .below }
+  pub target-in : (p : Float) → T (acceptedTarget kind p) → Target (exactOf p)
+  target-in = target-taken kind
 
-pub density-finite : (rho : Float) → T (acceptedDensity rho) → T (finite rho)
-density-finite rho h = inside (parts false 1 1024) (nat 1288) rho h .finite
+  pub density-finite : (rho : Float) → T (acceptedDensity kind rho) → T (finite rho)
+  density-finite rho h = density-inside kind rho h .finite
+
+  pub target-finite : (p : Float) → T (acceptedTarget kind p) → T (finite p)
+  target-finite p h = target-inside kind p h .finite
 
 pub tolerance-finite : (x : Float) → T (acceptedTolerance x) → T (finite x)
 tolerance-finite x h = inside (nat 0) (nat 1000000) x h .finite
@@ -71,9 +82,9 @@ unfolding onSides
 on-sides liquid vapour l v = rw (≺-leq l, ≺-leq v)
 
 -- ---- an end and a limit
-pub under-ceiling : (b : Bracket) → underCeiling b ≡ true ↔ (value (b .hi) ≼ nat 1000000000)
+pub under-ceiling : (kind : ℕ) (b : Bracket) → underCeiling kind b ≡ true ↔ (value (b .hi) ≼ nat (highest kind))
 unfolding underCeiling
-under-ceiling b = (leq-true _ _, ≼-leq)
+under-ceiling kind b = (leq-true _ _, ≼-leq)
 
 pub pushes : (b : Bracket) → pushesBack b ≡ true ↔ (nat 0 ≺ value (b .lo))
 unfolding pushesBack

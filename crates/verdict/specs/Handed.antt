@@ -25,20 +25,20 @@ pub record EndsFinite (lower upper : Float) : Type 0 where
   pub lower-finite : T (finite lower)
   pub upper-finite : T (finite upper)
 
--- a width, a sound table, and a state in range
-pub record Workable (v : ℕ) (table : List ℕ) (t rho : Float) : Type 0 where
+-- a width, a sound table of a kind, and a state in the kind's range
+pub record Workable (v kind : ℕ) (table : List ℕ) (t rho : Float) : Type 0 where
   pub width : Width v
-  pub table-sound : soundTable table ≡ true
-  pub temperature : T (acceptedTemperature t)
-  pub density : T (acceptedDensity rho)
+  pub table-sound : soundTable kind table ≡ true
+  pub temperature : T (acceptedTemperature kind t)
+  pub density : T (acceptedDensity kind rho)
 
 -- the same for a pair, with the densities on their own sides
-pub record WorkablePair (v : ℕ) (table : List ℕ) (t liquid vapour pressureTolerance gibbsTolerance : Float) : Type 0 where
+pub record WorkablePair (v kind : ℕ) (table : List ℕ) (t liquid vapour pressureTolerance gibbsTolerance : Float) : Type 0 where
   pub width : Width v
-  pub table-sound : soundTable table ≡ true
-  pub temperature : T (acceptedTemperature t)
-  pub liquid-density : T (acceptedDensity liquid)
-  pub vapour-density : T (acceptedDensity vapour)
+  pub table-sound : soundTable kind table ≡ true
+  pub temperature : T (acceptedTemperature kind t)
+  pub liquid-density : T (acceptedDensity kind liquid)
+  pub vapour-density : T (acceptedDensity kind vapour)
   pub pressure-tolerance : T (finite pressureTolerance)
   pub gibbs-tolerance : T (finite gibbsTolerance)
   pub above : exactOf vapour ≼ exactOf liquid

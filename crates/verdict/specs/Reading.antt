@@ -1,4 +1,4 @@
--- How an answer is read: the number, the place and the ends that document 01 ("Verdicts"), and for 19 and 21 document 02, d and f, give each case.
+-- How an answer is read: the number, the place and the ends that document 01 ("Verdicts"), and for 19, 21 and 29 document 02, d, f and h, give each case.
 -- Assumes nothing.
 use Prim.Native.Nat.{ℕ}
 use lib.IntN.{pos}
@@ -7,7 +7,7 @@ use lib.Dec.{T}
 use lib.Ieee.{Float, fin, isNan}
 use Rattle.verdict.specs.declared.Ends.{Ends}
 use Rattle.verdict.specs.declared.Refusal.{Refusal}
-use Rattle.verdict.specs.declared.Refusal.the-variants.{Width, TableLength, BrokenTerm, Temperature, Density, Target, Tolerance, Sides, Ceiling}
+use Rattle.verdict.specs.declared.Refusal.the-variants.{Width, Kind, TableLength, BrokenTerm, Temperature, Density, Target, Tolerance, Sides, Ceiling}
 use Rattle.verdict.specs.declared.SheetAnswer.{SheetAnswer}
 use Rattle.verdict.specs.declared.SheetAnswer.the-variants as sheet
 use Rattle.verdict.specs.declared.Answer.{Answer}
@@ -16,6 +16,7 @@ use Rattle.verdict.specs.declared.Answer.the-variants.{Accepted, Refused
 -- a refusal's number, and its place: 0 but for a broken term
 abbrev pub refusalNumber : Refusal → ℕ
 refusalNumber Width = 19
+refusalNumber Kind = 29
 refusalNumber TableLength = 1
 refusalNumber (BrokenTerm place) = 2
 refusalNumber Temperature = 3
@@ -27,6 +28,7 @@ refusalNumber Ceiling = 8
 
 abbrev pub refusalPlace : Refusal → ℕ
 refusalPlace Width = 0
+refusalPlace Kind = 0
 refusalPlace TableLength = 0
 refusalPlace (BrokenTerm place) = place
 refusalPlace Temperature = 0

@@ -5,5 +5,5 @@ use Rattle.exact.specs.Fraction.{Fraction}
 use Rattle.equation.specs.Rules.{sums, pressure, stiffness}
 use Rattle.verdict.specs.declared.phases.Phase.{Phase}
 
-unfoldable pub phaseOf : ℕ → List ℕ → (T rho : Fraction) → Phase
-phaseOf w table T rho = record { sums = sums w table T rho; pressure = pressure w table T rho; stiffness = stiffness w table T rho }
+unfoldable pub phaseOf : (w kind : ℕ) → List ℕ → (T rho : Fraction) → Phase
+phaseOf w kind table T rho = record { sums = sums w kind table T rho; pressure = pressure w kind table T rho; stiffness = stiffness w kind table T rho }

@@ -27,12 +27,12 @@ ghost use Rattle.verdict.specs.Statement.{DensityStated};
 ghost use Rattle.verdict.specs.Handed.{Handy};
 
 // 8, 9 and 11, by the brackets of pressure, of pressure less target, and of stiffness.
-fn worked(p: Bracket, gap: Bracket, s: Bracket, tolerance: f64) -> Answer
+fn worked(kind: u64, p: Bracket, gap: Bracket, s: Bracket, tolerance: f64) -> Answer
     requires { ⌜ (Handy p × Handy gap) × (Handy s × T (finite tolerance)) ⌝ }
-    ensures { λ r. ⌜ r ≡ firstFailing (densityWorked p gap s tolerance) (Accepted (handedOut p)) ⌝ }
+    ensures { λ r. ⌜ r ≡ firstFailing (densityWorked kind p gap s tolerance) (Accepted (handedOut p)) ⌝ }
     ensures { λ r. ⌜ AnswerNumbers r ⌝ }
 {
-    if !under_ceiling(p) {
+    if !under_ceiling(kind, p) {
         return Answer::Refused(Refusal::Ceiling);
     }
     if !gap_passes(gap, tolerance) {
@@ -45,30 +45,45 @@ fn worked(p: Bracket, gap: Bracket, s: Bracket, tolerance: f64) -> Answer
 }
 
 // 3 to 6, and what follows.
-fn screened(v: u64, table: &[u8], t: f64, rho: f64, target: f64, tolerance: f64) -> Answer
-    requires { ⌜ Width v × (soundTable (now table) ≡ true) ⌝ }
-    ensures { λ r. ⌜ r ≡ firstFailing (densityInputs (suc v) (now (table .entry)) t rho target tolerance) (Accepted (handedOut (pressure (suc v) (now (table .entry)) (exactOf t) (exactOf rho)))) ⌝ }
+fn screened(
+    v: u64,
+    kind: u64,
+    table: &[u8],
+    t: f64,
+    rho: f64,
+    target: f64,
+    tolerance: f64,
+) -> Answer
+    requires { ⌜ Width v × (soundTable kind (now table) ≡ true) ⌝ }
+    ensures { λ r. ⌜ r ≡ firstFailing (densityInputs (suc v) kind (now (table .entry)) t rho target tolerance) (Accepted (handedOut (pressure (suc v) kind (now (table .entry)) (exactOf t) (exactOf rho)))) ⌝ }
     ensures { λ r. ⌜ AnswerNumbers r ⌝ }
 {
-    if !doubles::range::accepts_temperature(t) {
+    if !doubles::range::accepts_temperature(kind, t) {
         return Answer::Refused(Refusal::Temperature);
     }
-    if !doubles::range::accepts_density(rho) {
+    if !doubles::range::accepts_density(kind, rho) {
         return Answer::Refused(Refusal::Density);
     }
-    if !doubles::range::accepts_target(target) {
+    if !doubles::range::accepts_target(kind, target) {
         return Answer::Refused(Refusal::Target);
     }
     if !doubles::range::accepts_tolerance(tolerance) {
         return Answer::Refused(Refusal::Tolerance);
     }
-    let a = phase_of(v, table, t, rho);
+    let a = phase_of(v, kind, table, t, rho);
     let gap = equation::target_gap_of(v, a.pressure, target);
-    worked(a.pressure, gap, a.stiffness, tolerance)
+    worked(kind, a.pressure, gap, a.stiffness, tolerance)
 }
 
-pub fn density_check(width: u64, table: &[u8], state: State, target: f64, tolerance: f64) -> Answer
-    ensures { λ r. ⌜ DensityStated width (now (table .entry)) (state .temperature) (state .density) target tolerance r ⌝ }
+pub fn density_check(
+    width: u64,
+    kind: u64,
+    table: &[u8],
+    state: State,
+    target: f64,
+    tolerance: f64,
+) -> Answer
+    ensures { λ r. ⌜ DensityStated width kind (now (table .entry)) (state .temperature) (state .density) target tolerance r ⌝ }
     ensures { λ r. ⌜ AnswerNumbers r ⌝ }
     ensures { λ r. ⌜ now (table .exit) ≡ now (table .entry) ⌝ }
 {
@@ -77,9 +92,12 @@ pub fn density_check(width: u64, table: &[u8], state: State, target: f64, tolera
     if !sound_width(width) {
         return Answer::Refused(Refusal::Width);
     }
-    match term::check_table(table) {
+    if !kind::sound_kind(kind) {
+        return Answer::Refused(Refusal::Kind);
+    }
+    match term::check_table(kind, table) {
         Table::Length => Answer::Refused(Refusal::TableLength),
         Table::Broken(place) => Answer::Refused(Refusal::BrokenTerm(place)),
-        Table::Sound(_) => screened(width - 1, table, t, rho, target, tolerance),
+        Table::Sound(_) => screened(width - 1, kind, table, t, rho, target, tolerance),
     }
 }

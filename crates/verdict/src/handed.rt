@@ -18,13 +18,13 @@ pub fn handed_out(b: Bracket) -> Ends
     Ends { lower, upper }
 }
 
-// The upper end of pressure is at most 10^9.
-pub fn under_ceiling(b: Bracket) -> bool
+// The upper end of pressure is at most the kind's ceiling.
+pub fn under_ceiling(kind: u64, b: Bracket) -> bool
     requires { ⌜ Handy b ⌝ }
-    ensures { λ r. ⌜ r ≡ underCeiling b ⌝ }
+    ensures { λ r. ⌜ r ≡ underCeiling kind b ⌝ }
 {
     let ends = handed_out(b);
-    !doubles::range::above_pressure_limit(ends.upper)
+    !doubles::range::above_pressure_limit(kind, ends.upper)
 }
 
 // The gap lies within its tolerance.

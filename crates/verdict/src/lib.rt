@@ -1,4 +1,4 @@
-// The answers to a state, a proposed density and a proposed pair at 32 or 53 bits: the numbers, places and ends of documents 01 and 02.
+// The answers to a state, a proposed density and a proposed pair at 32 or 53 bits, by a table of either kind: the numbers, places and ends of documents 01 and 02.
 // Nothing here writes to the lent table.
 
 mod widths; // widths.rt: which widths there are
@@ -24,9 +24,10 @@ pub struct Ends {
     pub upper: f64,
 }
 
-// A refusal with no ends: the number 19, then 1 to 8. A broken term has its place, counted from 1.
+// A refusal with no ends: the numbers 19 and 29, then 1 to 8. A broken term has its place, counted from 1.
 pub enum Refusal {
     Width,
+    Kind,
     TableLength,
     BrokenTerm(usize),
     Temperature,

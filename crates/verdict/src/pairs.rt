@@ -27,11 +27,11 @@ ghost use Rattle.verdict.specs.Rules.{handedOut, underCeiling, onSides, 
 ghost use Rattle.verdict.specs.Statement.{PairStated};
 ghost use Rattle.verdict.specs.Handed.{Handy, WorkablePair};
 
-fn accepts_densities(liquid: f64, vapour: f64) -> bool
-    ensures { λ r. ⌜ r ≡ (acceptedDensity liquid && acceptedDensity vapour) ⌝ }
+fn accepts_densities(kind: u64, liquid: f64, vapour: f64) -> bool
+    ensures { λ r. ⌜ r ≡ (acceptedDensity kind liquid && acceptedDensity kind vapour) ⌝ }
 {
-    if doubles::range::accepts_density(liquid) {
-        doubles::range::accepts_density(vapour)
+    if doubles::range::accepts_density(kind, liquid) {
+        doubles::range::accepts_density(kind, vapour)
     } else {
         false
     }
@@ -58,12 +58,12 @@ fn on_sides(liquid: f64, vapour: f64) -> bool
     }
 }
 
-fn both_under_ceiling(p: Bracket, q: Bracket) -> bool
+fn both_under_ceiling(kind: u64, p: Bracket, q: Bracket) -> bool
     requires { ⌜ Handy p × Handy q ⌝ }
-    ensures { λ r. ⌜ r ≡ (underCeiling p && underCeiling q) ⌝ }
+    ensures { λ r. ⌜ r ≡ (underCeiling kind p && underCeiling kind q) ⌝ }
 {
-    if under_ceiling(p) {
-        under_ceiling(q)
+    if under_ceiling(kind, p) {
+        under_ceiling(kind, q)
     } else {
         false
     }
@@ -90,6 +90,7 @@ fn balanced(gibbs: Bracket, l: Bracket, v: Bracket, gibbs_tolerance: f64, q: Bra
 
 // 8, 21 and 9, by the brackets of the two pressures and of their gap, and what follows.
 fn judged(
+    kind: u64,
     p: Bracket,
     q: Bracket,
     gap: Bracket,
@@ -100,10 +101,10 @@ fn judged(
     gibbs_tolerance: f64,
 ) -> Answer
     requires { ⌜ (((Handy p × Handy q) × (Handy gap × Handy gibbs)) × (Handy l × Handy v)) × (T (finite «pressure_tolerance») × T (finite «gibbs_tolerance»)) ⌝ }
-    ensures { λ r. ⌜ r ≡ firstFailing (pairWorked p q gap «pressure_tolerance» (balanceWorked gibbs l v «gibbs_tolerance»)) (Accepted (handedOut q)) ⌝ }
+    ensures { λ r. ⌜ r ≡ firstFailing (pairWorked kind p q gap «pressure_tolerance» (balanceWorked gibbs l v «gibbs_tolerance»)) (Accepted (handedOut q)) ⌝ }
     ensures { λ r. ⌜ AnswerNumbers r ⌝ }
 {
-    if !both_under_ceiling(p, q) {
+    if !both_under_ceiling(kind, p, q) {
         return Answer::Refused(Refusal::Ceiling);
     }
     if !pushes_back(q) {
@@ -118,6 +119,7 @@ fn judged(
 // Each phase is worked out once, in one pass over the table.
 fn worked(
     v: u64,
+    kind: u64,
     table: &[u8],
     t: f64,
     liquid: f64,
@@ -125,15 +127,16 @@ fn worked(
     pressure_tolerance: f64,
     gibbs_tolerance: f64,
 ) -> Answer
-    requires { ⌜ WorkablePair v (now table) t liquid vapour «pressure_tolerance» «gibbs_tolerance» ⌝ }
-    ensures { λ r. ⌜ r ≡ firstFailing (pairRest (suc v) (now (table .entry)) t liquid vapour «pressure_tolerance» «gibbs_tolerance») (Accepted (handedOut (pressure (suc v) (now (table .entry)) (exactOf t) (exactOf vapour)))) ⌝ }
+    requires { ⌜ WorkablePair v kind (now table) t liquid vapour «pressure_tolerance» «gibbs_tolerance» ⌝ }
+    ensures { λ r. ⌜ r ≡ firstFailing (pairRest (suc v) kind (now (table .entry)) t liquid vapour «pressure_tolerance» «gibbs_tolerance») (Accepted (handedOut (pressure (suc v) kind (now (table .entry)) (exactOf t) (exactOf vapour)))) ⌝ }
     ensures { λ r. ⌜ AnswerNumbers r ⌝ }
 {
-    let l = phase_of(v, table, t, liquid);
-    let g = phase_of(v, table, t, vapour);
+    let l = phase_of(v, kind, table, t, liquid);
+    let g = phase_of(v, kind, table, t, vapour);
     let gap = equation::pressure_gap_of(v, l.pressure, g.pressure);
     let gibbs = equation::gibbs_gap_of(v, t, liquid, vapour, l.sums, g.sums);
     judged(
+        kind,
         l.pressure,
         g.pressure,
         gap,
@@ -148,6 +151,7 @@ fn worked(
 // 3, 4, 6 and 7, and what follows.
 fn screened(
     v: u64,
+    kind: u64,
     table: &[u8],
     t: f64,
     liquid: f64,
@@ -155,14 +159,14 @@ fn screened(
     pressure_tolerance: f64,
     gibbs_tolerance: f64,
 ) -> Answer
-    requires { ⌜ Width v × (soundTable (now table) ≡ true) ⌝ }
-    ensures { λ r. ⌜ r ≡ firstFailing (pairInputs (suc v) (now (table .entry)) t liquid vapour «pressure_tolerance» «gibbs_tolerance») (Accepted (handedOut (pressure (suc v) (now (table .entry)) (exactOf t) (exactOf vapour)))) ⌝ }
+    requires { ⌜ Width v × (soundTable kind (now table) ≡ true) ⌝ }
+    ensures { λ r. ⌜ r ≡ firstFailing (pairInputs (suc v) kind (now (table .entry)) t liquid vapour «pressure_tolerance» «gibbs_tolerance») (Accepted (handedOut (pressure (suc v) kind (now (table .entry)) (exactOf t) (exactOf vapour)))) ⌝ }
     ensures { λ r. ⌜ AnswerNumbers r ⌝ }
 {
     if !doubles::range::accepts_pair_temperature(t) {
         return Answer::Refused(Refusal::Temperature);
     }
-    if !accepts_densities(liquid, vapour) {
+    if !accepts_densities(kind, liquid, vapour) {
         return Answer::Refused(Refusal::Density);
     }
     if !accepts_tolerances(pressure_tolerance, gibbs_tolerance) {
@@ -173,6 +177,7 @@ fn screened(
     }
     worked(
         v,
+        kind,
         table,
         t,
         liquid,
@@ -184,13 +189,14 @@ fn screened(
 
 pub fn pair_check(
     width: u64,
+    kind: u64,
     table: &[u8],
     liquid: State,
     vapour: f64,
     pressure_tolerance: f64,
     gibbs_tolerance: f64,
 ) -> Answer
-    ensures { λ r. ⌜ PairStated width (now (table .entry)) (liquid .temperature) (liquid .density) vapour «pressure_tolerance» «gibbs_tolerance» r ⌝ }
+    ensures { λ r. ⌜ PairStated width kind (now (table .entry)) (liquid .temperature) (liquid .density) vapour «pressure_tolerance» «gibbs_tolerance» r ⌝ }
     ensures { λ r. ⌜ AnswerNumbers r ⌝ }
     ensures { λ r. ⌜ now (table .exit) ≡ now (table .entry) ⌝ }
 {
@@ -199,11 +205,15 @@ pub fn pair_check(
     if !sound_width(width) {
         return Answer::Refused(Refusal::Width);
     }
-    match term::check_table(table) {
+    if !kind::sound_kind(kind) {
+        return Answer::Refused(Refusal::Kind);
+    }
+    match term::check_table(kind, table) {
         Table::Length => Answer::Refused(Refusal::TableLength),
         Table::Broken(place) => Answer::Refused(Refusal::BrokenTerm(place)),
         Table::Sound(_) => screened(
             width - 1,
+            kind,
             table,
             t,
             rho,

@@ -13,11 +13,11 @@ pub struct Phase {
     pub stiffness: Bracket,
 }
 
-pub fn phase_of(v: u64, table: &[u8], t: f64, rho: f64) -> Phase
-    requires { ⌜ Workable v (now table) t rho ⌝ }
-    ensures { λ r. ⌜ r ≡ phaseOf (suc v) (now (table .entry)) (exactOf t) (exactOf rho) ⌝ }
+pub fn phase_of(v: u64, kind: u64, table: &[u8], t: f64, rho: f64) -> Phase
+    requires { ⌜ Workable v kind (now table) t rho ⌝ }
+    ensures { λ r. ⌜ r ≡ phaseOf (suc v) kind (now (table .entry)) (exactOf t) (exactOf rho) ⌝ }
 {
-    let sums = equation::sums_of(v, table, t, rho);
+    let sums = equation::sums_of(v, kind, table, t, rho);
     let pressure = equation::pressure_of(v, t, rho, sums);
     let stiffness = equation::stiffness_of(v, t, sums);
     Phase {

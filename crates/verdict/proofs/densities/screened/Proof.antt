@@ -7,6 +7,7 @@ use Rattle.verdict.specs.Worked.{phaseOf}
 use Rattle.verdict.proofs.Order.{on-pass, fails-at}
 use Rattle.verdict.proofs.Tests.{holds, passed, failed, tolerance-finite}
 use Rattle.verdict.proofs.HandedOut.{zeros-numbers}
+use Rattle.doubles.proofs.Limits.{target-widest}
 use Rattle.verdict.proofs.Ready.{pressure-ready, pressure-handy, stiffness-handy, targetGap-handy}
 use Rattle.verdict.proofs.densities.screened.Statement.{statement}
 use Rattle.verdict.proofs.densities.screened.Tie as tie
@@ -59,8 +60,9 @@ target-gap-of-requires c κs =
     let hot = holds (passed (c .before .before .before .before .before .before .before .before .accepts-temperature .ensures) (c .before .before .before .before .before .before .before .if1 .left)) in
     let dense = holds (passed (c .before .before .before .before .before .before .accepts-density .ensures) (c .before .before .before .before .before .if2 .left)) in
     let aim = holds (passed (c .before .before .before .before .accepts-target .ensures) (c .before .before .before .if3 .left)) in
+    let a = c .before .before .before .before .before .before .before .before .before .before .args in
     let p = c .before .before .before .before .before .before .before .before .before .before .pre in
-    (rw (c .phase-of .ensures) (pressure-ready (p .0) _ (p .1) _ hot _ dense), aim)
+    (rw (c .phase-of .ensures) (pressure-ready (p .0) _ _ (p .1) _ hot _ dense), target-widest (a .kind) (a .target) aim)
 
 worked-requires : tie.Need-worked-requires
 unfolding phaseOf targetGap
@@ -69,11 +71,11 @@ worked-requires c κs =
     let dense = holds (passed (c .before .before .before .before .before .before .before .accepts-density .ensures) (c .before .before .before .before .before .before .if2 .left)) in
     let aim = holds (passed (c .before .before .before .before .before .accepts-target .ensures) (c .before .before .before .before .if3 .left)) in
     let near = holds (passed (c .before .before .before .accepts-tolerance .ensures) (c .before .before .if4 .left)) in
-    let fit = subst T (sym (c .before .before .before .before .before .before .before .before .before .before .before .good .1 .1 .1 .1 .0 .1)) tt in
+    let fit = subst T (sym (c .before .before .before .before .before .before .before .before .before .before .before .good .1 .1 .1 .1 .1 .0 .1)) tt in
     let p = c .before .before .before .before .before .before .before .before .before .before .before .pre in
     rw (c .target-gap-of .ensures, c .before .phase-of .ensures) (
-      (pressure-handy (p .0) _ (p .1) _ hot _ dense, targetGap-handy (p .0) _ (p .1) _ hot _ dense _ fit aim),
-      (stiffness-handy (p .0) _ (p .1) _ hot _ dense, tolerance-finite _ near),
+      (pressure-handy (p .0) _ _ (p .1) _ hot _ dense, targetGap-handy (p .0) _ _ (p .1) _ hot _ dense _ fit aim),
+      (stiffness-handy (p .0) _ _ (p .1) _ hot _ dense, tolerance-finite _ near),
     )
 
 returns-5 : tie.Need-returns-5

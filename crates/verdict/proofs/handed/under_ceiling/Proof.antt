@@ -17,7 +17,7 @@ returns c =
     let p = c .before .before in
     ap not (c .above-pressure-limit .ensures)
     ∙ Bool·not-not _
-    ∙ under-of (p .args .b) (p .pre) (c .before .handed-out .result) (c .before .handed-out .ensures .0)
+    ∙ under-of (p .args .b) (p .pre) (c .before .handed-out .result) (c .before .handed-out .ensures .0) (p .args .kind)
 
 pub under-ceiling-spec : {M : Type 1} → statement M
 under-ceiling-spec = tie.close (tie.spec handed-out-requires above-pressure-limit-requires returns)

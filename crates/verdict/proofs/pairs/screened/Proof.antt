@@ -39,8 +39,8 @@ returns-3 c = (
 on-sides-requires : tie.Need-on-sides-requires
 on-sides-requires c κs =
     let a = c .before .before .before .before .before .before .before .args in
-    let d = both (acceptedDensity (a .liquid)) (acceptedDensity (a .vapour)) (passed (c .before .before .before .accepts-densities .ensures) (c .before .before .if2 .left)) in
-    (density-finite (a .liquid) (holds (d .0)), density-finite (a .vapour) (holds (d .1)))
+    let d = both (acceptedDensity (a .kind) (a .liquid)) (acceptedDensity (a .kind) (a .vapour)) (passed (c .before .before .before .accepts-densities .ensures) (c .before .before .if2 .left)) in
+    (density-finite (a .kind) (a .liquid) (holds (d .0)), density-finite (a .kind) (a .vapour) (holds (d .1)))
 
 returns-4 : tie.Need-returns-4
 returns-4 c = (
@@ -51,13 +51,13 @@ returns-4 c = (
 worked-requires : tie.Need-worked-requires
 worked-requires c κs =
     let a = c .before .before .before .before .before .before .before .before .before .args in
-    let d = both (acceptedDensity (a .liquid)) (acceptedDensity (a .vapour)) (passed (c .before .before .before .before .before .accepts-densities .ensures) (c .before .before .before .before .if2 .left)) in
+    let d = both (acceptedDensity (a .kind) (a .liquid)) (acceptedDensity (a .kind) (a .vapour)) (passed (c .before .before .before .before .before .accepts-densities .ensures) (c .before .before .before .before .if2 .left)) in
     let near = both (acceptedTolerance (a .pressure-tolerance)) (acceptedTolerance (a .gibbs-tolerance)) (passed (c .before .before .before .accepts-tolerances .ensures) (c .before .before .if3 .left)) in
     let apart = sides (a .liquid) (a .vapour) (passed (c .before .on-sides .ensures) (c .if4 .left)) in
     record {
       width = c .before .before .before .before .before .before .before .before .before .pre .0;
       table-sound = c .before .before .before .before .before .before .before .before .before .pre .1;
-      temperature = above-triple-point (a .t) (passed (c .before .before .before .before .before .before .before .accepts-pair-temperature .ensures) (c .before .before .before .before .before .before .if1 .left));
+      temperature = above-triple-point (a .kind) (a .t) (passed (c .before .before .before .before .before .before .before .accepts-pair-temperature .ensures) (c .before .before .before .before .before .before .if1 .left));
       liquid-density = holds (d .0);
       vapour-density = holds (d .1);
       pressure-tolerance = tolerance-finite (a .pressure-tolerance) (holds (near .0));

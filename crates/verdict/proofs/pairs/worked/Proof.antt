@@ -3,6 +3,7 @@ use Rattle.exact.specs.Fraction.Order.{≼-leq}
 use Rattle.equation.specs.Rules.{pressureGap, gibbsGap}
 use Rattle.verdict.specs.Worked.{phaseOf}
 use Rattle.verdict.proofs.Tests.{holds}
+use Rattle.doubles.proofs.Limits.{temperature-widest, density-widest}
 use Rattle.verdict.proofs.Ready.{sums-ready, pressure-ready, pressure-handy, stiffness-handy, pressureGap-handy, gibbsGap-handy}
 use Rattle.verdict.proofs.pairs.worked.Statement.{statement}
 use Rattle.verdict.proofs.pairs.worked.Tie as tie
@@ -22,16 +23,17 @@ unfolding phaseOf
 pressure-gap-of-requires c κs =
     let p = c .before .before .before .pre in
     rw (c .phase-of2 .ensures, c .before .phase-of .ensures)
-    (pressure-ready (p .width) _ (p .table-sound) _ (p .temperature) _ (p .liquid-density), pressure-ready (p .width) _ (p .table-sound) _ (p .temperature) _ (p .vapour-density))
+    (pressure-ready (p .width) _ _ (p .table-sound) _ (p .temperature) _ (p .liquid-density), pressure-ready (p .width) _ _ (p .table-sound) _ (p .temperature) _ (p .vapour-density))
 
 gibbs-gap-of-requires : tie.Need-gibbs-gap-of-requires
 unfolding phaseOf
 gibbs-gap-of-requires c κs =
+    let a = c .before .before .before .before .args in
     let p = c .before .before .before .before .pre in (
-      p .temperature,
-      record { dense = p .liquid-density; thin = p .vapour-density; order = holds (≼-leq (p .above)) },
-      rw (c .before .before .phase-of .ensures) (sums-ready (p .width) _ (p .table-sound) _ (p .temperature) _ (p .liquid-density)),
-      rw (c .before .phase-of2 .ensures) (sums-ready (p .width) _ (p .table-sound) _ (p .temperature) _ (p .vapour-density)),
+      temperature-widest (a .kind) (a .t) (p .temperature),
+      record { dense = density-widest (a .kind) (a .liquid) (p .liquid-density); thin = density-widest (a .kind) (a .vapour) (p .vapour-density); order = holds (≼-leq (p .above)) },
+      rw (c .before .before .phase-of .ensures) (sums-ready (p .width) _ _ (p .table-sound) _ (p .temperature) _ (p .liquid-density)),
+      rw (c .before .phase-of2 .ensures) (sums-ready (p .width) _ _ (p .table-sound) _ (p .temperature) _ (p .vapour-density)),
     )
 
 judged-requires : tie.Need-judged-requires
@@ -40,13 +42,13 @@ judged-requires c κs =
     let p = c .before .before .before .before .before .pre in (
       rw (c .gibbs-gap-of .ensures, c .before .pressure-gap-of .ensures, c .before .before .phase-of2 .ensures, c .before .before .before .phase-of .ensures) (
         (
-          (pressure-handy (p .width) _ (p .table-sound) _ (p .temperature) _ (p .liquid-density), pressure-handy (p .width) _ (p .table-sound) _ (p .temperature) _ (p .vapour-density)),
+          (pressure-handy (p .width) _ _ (p .table-sound) _ (p .temperature) _ (p .liquid-density), pressure-handy (p .width) _ _ (p .table-sound) _ (p .temperature) _ (p .vapour-density)),
           (
-            pressureGap-handy (p .width) _ (p .table-sound) _ (p .temperature) _ _ (p .liquid-density) (p .vapour-density),
-            gibbsGap-handy (p .width) _ (p .table-sound) _ (p .temperature) _ _ (p .liquid-density) (p .vapour-density) (p .above),
+            pressureGap-handy (p .width) _ _ (p .table-sound) _ (p .temperature) _ _ (p .liquid-density) (p .vapour-density),
+            gibbsGap-handy (p .width) _ _ (p .table-sound) _ (p .temperature) _ _ (p .liquid-density) (p .vapour-density) (p .above),
           ),
         ),
-        (stiffness-handy (p .width) _ (p .table-sound) _ (p .temperature) _ (p .liquid-density), stiffness-handy (p .width) _ (p .table-sound) _ (p .temperature) _ (p .vapour-density)),
+        (stiffness-handy (p .width) _ _ (p .table-sound) _ (p .temperature) _ (p .liquid-density), stiffness-handy (p .width) _ _ (p .table-sound) _ (p .temperature) _ (p .vapour-density)),
       ),
       (p .pressure-tolerance, p .gibbs-tolerance),
     )

@@ -37,7 +37,7 @@ worked-requires c κs =
     let hot = holds (passed (c .before .before .before .before .accepts-temperature .ensures) (c .before .before .before .if1 .left)) in
     let dense = holds (passed (c .before .before .accepts-density .ensures) (c .before .if2 .left)) in
     let p = c .before .before .before .before .before .before .pre in
-    rw (c .phase-of .ensures) (pressure-handy (p .0) _ (p .1) _ hot _ dense, stiffness-handy (p .0) _ (p .1) _ hot _ dense)
+    rw (c .phase-of .ensures) (pressure-handy (p .0) _ _ (p .1) _ hot _ dense, stiffness-handy (p .0) _ _ (p .1) _ hot _ dense)
 
 returns-3 : tie.Need-returns-3
 unfolding phaseOf

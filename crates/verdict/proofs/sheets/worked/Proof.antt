@@ -21,13 +21,13 @@ returns : tie.Need-returns
 returns c =
     let p = c .before .before .before .under-ceiling .ensures in (
       ap₂ Answered (c .before .handed-out .ensures .0) (c .handed-out2 .ensures .0)
-          ∙ sym (all-pass (stateWorked (c .before .before .before .before .args .pressure)) _ (sym p ∙ c .before .before .if1 .taken, tt)),
+          ∙ sym (all-pass (stateWorked (c .before .before .before .before .args .kind) (c .before .before .before .before .args .pressure)) _ (sym p ∙ c .before .before .if1 .taken, tt)),
       (numbers _ (c .before .handed-out .ensures .1), numbers _ (c .handed-out2 .ensures .1)),
     )
 
 returns-2 : tie.Need-returns-2
 returns-2 c = (
-  sym (fails-at 0 (stateWorked (c .before .before .args .pressure)) _ (sym (c .before .under-ceiling .ensures) ∙ c .if1 .left)),
+  sym (fails-at 0 (stateWorked (c .before .before .args .kind) (c .before .before .args .pressure)) _ (sym (c .before .under-ceiling .ensures) ∙ c .if1 .left)),
   (zeros-numbers, zeros-numbers),
 )
 
