@@ -8,11 +8,12 @@ use native.Mathlib.Omega.{arith}
 use lib.ListN.{length}
 use lib.Dec.{eqb}
 use Rattle.term.specs.declared.Table.the-variants.{Sound, Length, Broken}
-use Rattle.term.specs.Bounds.{Bounds, Whole}
+use Rattle.kind.specs.Kind.{termBytes}
+use Rattle.term.specs.Bounds.{Bounds, Plain, Whole}
 use Rattle.term.specs.First.{SoundBelow, First}
-use Rattle.term.specs.Packed.{termAt, countTerms}
-use Rattle.term.specs.Sound.{soundLength, soundTable, firstBroken, placeAnswer, tableAnswer}
-use Rattle.term.proofs.Rules.{both, place-some, termAt-fields, soundTerm-rules, soundLength-whole}
+use Rattle.term.specs.Packed.{termAt, spareAt, countTerms}
+use Rattle.term.specs.Sound.{soundTerm, soundAt, soundLength, soundTable, firstBroken, placeAnswer, tableAnswer}
+use Rattle.term.proofs.Rules.{both, place-some, termAt-bounds, termAt-old, soundLength-whole, whole-widest, whole-few, within-bytes}
 use Rattle.term.proofs.First.{place-sound, place-first, first-place}
 
 -- the three ways of the rule, over the test of the length and the place
@@ -34,62 +35,64 @@ broken-when true count zero k e = let z : _≡_ {A = ℕ} 0 1 = cc in absurd (om
 broken-when true count (suc place) k e = let same : suc place ≡ k = cc in (refl, same, omega arith)
 broken-when false count place k e = let z : _≡_ {A = ℕ} 0 1 = cc in absurd (omega arith)
 
-module _ (table : List ℕ) where
-  pub sound-answer : soundTable table ≡ true → tableAnswer table ≡ Sound (countTerms table)
+module _ (kind : ℕ) (table : List ℕ) where
+  pub sound-answer : soundTable kind table ≡ true → tableAnswer kind table ≡ Sound (countTerms kind table)
   unfolding soundTable tableAnswer placeAnswer
   sound-answer h =
-      let p = both (soundLength (length table)) (eqb (firstBroken table) 0) h in
-      rw (p .0, eqb-true (firstBroken table) 0 (p .1))
+      let p = both (soundLength kind (length table)) (eqb (firstBroken kind table) 0) h in
+      rw (p .0, eqb-true (firstBroken kind table) 0 (p .1))
 
-  pub answer-sound : (n : ℕ) → tableAnswer table ≡ Sound n → (soundTable table ≡ true) × (n ≡ countTerms table)
+  pub answer-sound : (n : ℕ) → tableAnswer kind table ≡ Sound n → (soundTable kind table ≡ true) × (n ≡ countTerms kind table)
   unfolding soundTable tableAnswer
   answer-sound n h =
-      let p = sound-when (soundLength (length table)) (countTerms table) (firstBroken table) n h in
-      (rw (p .0) (eq-eqb (firstBroken table) 0 (p .1)), p .2)
+      let p = sound-when (soundLength kind (length table)) (countTerms kind table) (firstBroken kind table) n h in
+      (rw (p .0) (eq-eqb (firstBroken kind table) 0 (p .1)), p .2)
 
-  pub answer-length : tableAnswer table ≡ Length → soundLength (length table) ≡ false
+  pub answer-length : tableAnswer kind table ≡ Length → soundLength kind (length table) ≡ false
   unfolding tableAnswer
-  answer-length h = length-when (soundLength (length table)) (countTerms table) (firstBroken table) h
+  answer-length h = length-when (soundLength kind (length table)) (countTerms kind table) (firstBroken kind table) h
 
-  pub answer-broken : (k : ℕ) → tableAnswer table ≡ Broken k → (soundLength (length table) ≡ true) × (firstBroken table ≡ k) × (0 < k)
+  pub answer-broken : (k : ℕ) → tableAnswer kind table ≡ Broken k → (soundLength kind (length table) ≡ true) × (firstBroken kind table ≡ k) × (0 < k)
   unfolding tableAnswer
-  answer-broken k h = broken-when (soundLength (length table)) (countTerms table) (firstBroken table) k h
+  answer-broken k h = broken-when (soundLength kind (length table)) (countTerms kind table) (firstBroken kind table) k h
 
-  pub length-answer : soundLength (length table) ≡ false → tableAnswer table ≡ Length
+  pub length-answer : soundLength kind (length table) ≡ false → tableAnswer kind table ≡ Length
   unfolding tableAnswer
   length-answer h = rw h
 
   -- a table of right length is answered with the place of its first broken term, and only with that
-  pub first-answer : (k : ℕ) → soundLength (length table) ≡ true → First table k → tableAnswer table ≡ Broken (k + 1)
+  pub first-answer : (k : ℕ) → soundLength kind (length table) ≡ true → First kind table k → tableAnswer kind table ≡ Broken (k + 1)
   unfolding tableAnswer
-  first-answer k h first = rw (h, first-place table k first) (sym (place-some (countTerms table) (k + 1) (omega arith)))
+  first-answer k h first = rw (h, first-place kind table k first) (sym (place-some (countTerms kind table) (k + 1) (omega arith)))
 
-  pub answer-first : (k : ℕ) → tableAnswer table ≡ Broken (k + 1) → First table k
-  answer-first k h = place-first table k (answer-broken (k + 1) h .1)
+  pub answer-first : (k : ℕ) → tableAnswer kind table ≡ Broken (k + 1) → First kind table k
+  answer-first k h = place-first kind table k (answer-broken (k + 1) h .1)
 
-  pub sound-whole : soundTable table ≡ true → Whole (length table)
+  pub sound-whole : soundTable kind table ≡ true → Whole kind (length table)
   unfolding soundTable
-  sound-whole h = soundLength-whole (length table) (both (soundLength (length table)) (eqb (firstBroken table) 0) h .0)
+  sound-whole h = soundLength-whole kind (length table) (both (soundLength kind (length table)) (eqb (firstBroken kind table) 0) h .0)
 
-  pub sound-below : soundTable table ≡ true → SoundBelow table (countTerms table)
+  pub sound-below : soundTable kind table ≡ true → SoundBelow kind table (countTerms kind table)
   unfolding soundTable
-  sound-below h = place-sound table (eqb-true (firstBroken table) 0 (both (soundLength (length table)) (eqb (firstBroken table) 0) h .1))
+  sound-below h = place-sound kind table (eqb-true (firstBroken kind table) 0 (both (soundLength kind (length table)) (eqb (firstBroken kind table) 0) h .1))
 
-  pub sound-bounds : soundTable table ≡ true → (k : ℕ) → k < countTerms table → Bounds (termAt table k)
-  sound-bounds h k l =
-      let fields = termAt-fields table k in
-      let rules = soundTerm-rules (termAt table k) (sound-below h k l) in
-      record {
-        c-below = fields .c-below;
-        d-above = rules .d-above;
-        d-below = fields .d-below;
-        t-most = rules .t-most;
-        magnitude-above = rules .magnitude-above;
-        magnitude-most = rules .magnitude-most;
-      }
+  pub sound-bounds : soundTable kind table ≡ true → (k : ℕ) → k < countTerms kind table → Bounds (termAt kind table k)
+  unfolding soundAt
+  sound-bounds h k l = termAt-bounds kind table k (both (soundTerm kind (termAt kind table k)) _ (sound-below h k l) .0)
+
+  -- no spare bit of a sound table is set
+  pub sound-spare : soundTable kind table ≡ true → (k : ℕ) → k < countTerms kind table → spareAt kind table k ≡ 0
+  unfolding soundAt
+  sound-spare h k l = eqb-true (spareAt kind table k) 0 (both (soundTerm kind (termAt kind table k)) _ (sound-below h k l) .1)
+
+  pub sound-few : soundTable kind table ≡ true → countTerms kind table ≤ 64
+  sound-few h = whole-few (sound-whole h)
 
   -- each place of a sound table may be read
-  pub sound-reach : soundTable table ≡ true → (k : ℕ) → k < countTerms table → (9 * k + 9 ≤ length table) × (length table ≤ 576)
-  sound-reach h k l =
-      let whole = sound-whole h in
-      (omega arith, whole .most)
+  pub sound-reach : soundTable kind table ≡ true → (k : ℕ) → k < countTerms kind table → (termBytes kind * k + termBytes kind ≤ length table) × (length table ≤ 768)
+  sound-reach h k l = (within-bytes kind (length table) k l, whole-widest (sound-whole h))
+
+-- what a nine-byte term keeps besides
+pub sound-plain : (table : List ℕ) → soundTable 38 table ≡ true → (k : ℕ) → k < countTerms 38 table → Plain (termAt 38 table k)
+unfolding soundAt
+sound-plain table h k l = termAt-old 38 table k (both (soundTerm 38 (termAt 38 table k)) _ (sound-below 38 table h k l) .0) (λ e. omega arith)

@@ -1,18 +1,17 @@
--- What the packing of a term cites: a number's bytes one by one, and a term as one byte and a word. Assumes nothing.
+-- What the packing of a term cites: a number's bytes one by one, and a term as some bytes and a word. Assumes nothing.
 use Prim.Native.Nat.{ℕ, zero, suc, _+_, _-_, _*_, _/_, _%_, _^_, _≤_, _<_}
 use native.Mathlib.Omega.{arith}
 use mathlib.Core.Path.{_≡_, refl, sym, ap, ap₂, _∙_}
 use mathlib.Core.Bool.{Bool, true, false}
 use mathlib.Core.List.{List, [], _∷_, _++_}
-use native.Mathlib.Nat.{mul-add-div-right, div-eq-of-lt}
-use lib.Dec.{lit<}
 use lib.ListN.{set}
-use lib.Pow.{pow-add}
+use lib.Pow.{pow-add, high, shr-shr}
 use Rattle.lent.specs.Put.{Put}
 use Rattle.term.specs.declared.Term.{Term}
 use Rattle.term.specs.Pieces.{wide, joined}
 use Rattle.term.specs.Pack.{bytesOf, pieces, signBit, headOf, pack}
-use Rattle.term.specs.Bounds.{WithinFields}
+use Rattle.term.specs.Long.{longPieces, longHead, packLong}
+use Rattle.term.specs.Bounds.{WithinFields, WithinLong}
 use Rattle.term.proofs.Joined.{above}
 
 pub bytes-none : (n x : ℕ) → n ≡ 0 → bytesOf n x ≡ []
@@ -46,13 +45,21 @@ pub head-below : (term : Term) → WithinFields term → headOf term < 4096
 unfolding headOf
 head-below term w = omega (arith, sign-small (term .negative))
 
--- nine bytes are the first of them and a word
-nine-bytes : (top word : ℕ) → word < 2 ^ 64 → bytesOf 9 (top * 2 ^ 64 + word) ≡ bytesOf 1 top ++ bytesOf 8 word
+pub long-head-below : (term : Term) → WithinLong term → longHead term < 2 ^ 26
+unfolding longHead
+long-head-below term w = omega (arith, sign-small (term .negative))
+
+-- so many bytes more than eight are those bytes and a word
+bytes-word : (n top word : ℕ) → word < 2 ^ 64 → bytesOf (n + 8) (top * 2 ^ 64 + word) ≡ bytesOf n top ++ bytesOf 8 word
 unfolding bytesOf
-nine-bytes top word h =
-    let e : (top * 2 ^ 64 + word) / 2 ^ 64 ≡ top = omega (arith, mul-add-div-right {m = 2 ^ 64} (lit< tt) top word, div-eq-of-lt h) in
-    let one : top / 1 ≡ top = omega arith in
-    ap₂ (λ a b. a % 256 ∷ b) (e ∙ sym one) (bytes-low 8 top word)
+bytes-word zero top word h = bytes-low 8 top word
+bytes-word (suc n) top word h =
+    let e : suc n + 8 ≡ suc (n + 8) = omega arith in
+    let place : 8 * (n + 8) ≡ 64 + 8 * n = omega arith in
+    ap (λ k. bytesOf k (top * 2 ^ 64 + word)) e
+    ∙ ap₂ (λ a b. a % 256 ∷ b)
+    (ap (λ k. (top * 2 ^ 64 + word) / 2 ^ k) place ∙ sym (shr-shr (top * 2 ^ 64 + word) 64 (8 * n)) ∙ ap (λ k. k / 2 ^ (8 * n)) (high top 64 h))
+    (bytes-word n top word h)
 
 -- a term's bytes: those of its head's first eight bits, and those of the other four with the magnitude
 pub pack-head : (term : Term) (head : ℕ) → WithinFields term → head ≡ headOf term
@@ -61,7 +68,17 @@ unfolding pack pieces joined wide headOf
 pack-head term head w e =
     let word : ℕ = head % 16 * 1152921504606846976 + term .magnitude in
     let all : head / 16 * 2 ^ 64 + word ≡ joined (pieces term) = omega arith in
-    sym (nine-bytes (head / 16) word (omega (arith, w .magnitude-below))) ∙ ap (bytesOf 9) all
+    sym (bytes-word 1 (head / 16) word (omega (arith, w .magnitude-below))) ∙ ap (bytesOf 9) all
+
+-- a term's twelve bytes: those of its head with the magnitude's first six bits, and those of its other 54 with the spare bits
+pub pack-long : (term : Term) (head : ℕ) → WithinLong term → head ≡ longHead term
+    → bytesOf 4 (head * 64 + term .magnitude / 18014398509481984) ++ bytesOf 8 (term .magnitude % 18014398509481984 * 1024) ≡ packLong term
+unfolding packLong longPieces joined wide longHead
+pack-long term head w e =
+    let top : ℕ = head * 64 + term .magnitude / 18014398509481984 in
+    let word : ℕ = term .magnitude % 18014398509481984 * 1024 in
+    let all : top * 2 ^ 64 + word ≡ joined (longPieces term) = omega arith in
+    sym (bytes-word 4 top word (omega arith)) ∙ ap (bytesOf 12) all
 
 -- one byte put
 pub put-one : (l : List ℕ) (i byte : ℕ) → Put l i (byte ∷ []) (set l i byte) (i + 1)

@@ -1,6 +1,6 @@
--- Packing and reading back: a piece of any record, a term, and a whole table of terms. Assumes nothing.
+-- Packing and reading back: a piece of any record, and a term of nine bytes and of twelve. Assumes nothing.
 use Prim.Native.Nat.{ℕ, zero, suc, _+_, _-_, _*_, _/_, _%_, _^_, _<_}
-use mathlib.Core.Path.{_≡_, refl, ap, _∙_}
+use mathlib.Core.Path.{_≡_, refl, sym, ap, _∙_}
 use mathlib.Core.List.{List, [], _∷_, _++_, map}
 use mathlib.Core.Bool.{Bool, true, false, cond}
 use native.Mathlib.Omega.{arith}
@@ -12,8 +12,9 @@ use Rattle.term.specs.declared.Term.{Term}
 use Rattle.term.specs.Pieces.{Piece, wide, joined, Fit}
 use Rattle.term.specs.Bits.{eight, number, field, Bytes}
 use Rattle.term.specs.Pack.{bytesOf, pieces, pack}
-use Rattle.term.specs.Packed.{termFrom}
-use Rattle.term.specs.Bounds.{WithinFields}
+use Rattle.term.specs.Long.{longFrom, longPieces, packLong}
+use Rattle.term.specs.Packed.{plainFactor, plainFrom}
+use Rattle.term.specs.Bounds.{WithinFields, WithinLong}
 use Rattle.term.proofs.Joined.{wide-append, joined-below, joined-cut}
 use Rattle.term.proofs.Fields.{wide-eight}
 
@@ -66,8 +67,8 @@ unfolding pieces
 pieces-fit term f = (f .c-below, (f .d-below, (f .t-below, (sign-fits (term .negative), (f .magnitude-below, tt)))))
 
 -- the fields of a term, packed and read back
-pub pack-read : (term : Term) → WithinFields term → termFrom (pack term) 0 ≡ term
-unfolding termFrom pack pieces wide
+pub pack-read : (term : Term) → WithinFields term → plainFrom (pack term) 0 ≡ term
+unfolding plainFrom pack pieces wide
 pack-read term f =
     let fit : Fit (pieces term) = pieces-fit term f in
     let a : Piece = record { bits = 2; value = term .c } in
@@ -81,5 +82,31 @@ pack-read term f =
       piece-read (a ∷ b ∷ []) c (d ∷ e ∷ []) 9 fit refl,
       piece-read (a ∷ b ∷ c ∷ []) d (e ∷ []) 9 fit refl,
       piece-read (a ∷ b ∷ c ∷ d ∷ []) e [] 9 fit refl,
+      sign-back (term .negative),
+      sym (f .factor-plain),
+    )
+
+long-fit : (term : Term) → WithinLong term → Fit (longPieces term)
+unfolding longPieces
+long-fit term f = (f .c-below, (f .factor-below, (f .d-below, (f .t-below, (sign-fits (term .negative), (f .magnitude-below, (omega arith, tt)))))))
+
+pub long-read : (term : Term) → WithinLong term → longFrom (packLong term) 0 ≡ term
+unfolding longFrom packLong longPieces wide
+long-read term f =
+    let fit : Fit (longPieces term) = long-fit term f in
+    let a : Piece = record { bits = 4; value = term .c } in
+    let b : Piece = record { bits = 10; value = term .factor } in
+    let c : Piece = record { bits = 5; value = term .d } in
+    let d : Piece = record { bits = 6; value = term .t } in
+    let e : Piece = record { bits = 1; value = cond (term .negative) 1 0 } in
+    let g : Piece = record { bits = 60; value = term .magnitude } in
+    let h : Piece = record { bits = 10; value = 0 } in
+    rw (
+      piece-read [] a (b ∷ c ∷ d ∷ e ∷ g ∷ h ∷ []) 12 fit refl,
+      piece-read (a ∷ []) b (c ∷ d ∷ e ∷ g ∷ h ∷ []) 12 fit refl,
+      piece-read (a ∷ b ∷ []) c (d ∷ e ∷ g ∷ h ∷ []) 12 fit refl,
+      piece-read (a ∷ b ∷ c ∷ []) d (e ∷ g ∷ h ∷ []) 12 fit refl,
+      piece-read (a ∷ b ∷ c ∷ d ∷ []) e (g ∷ h ∷ []) 12 fit refl,
+      piece-read (a ∷ b ∷ c ∷ d ∷ e ∷ []) g (h ∷ []) 12 fit refl,
       sign-back (term .negative),
     )

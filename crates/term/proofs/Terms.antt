@@ -7,29 +7,29 @@ use lib.ListN.{length, getD}
 use Rattle.term.specs.declared.Term.{Term}
 use Rattle.term.specs.Packed.{termAt, countTerms, termsFrom, terms}
 
-module _ (table : List ℕ) where
-  from-length : (k n : ℕ) → length (termsFrom table k n) ≡ n
+module _ (kind : ℕ) (table : List ℕ) where
+  pub from-length : (k n : ℕ) → length (termsFrom kind table k n) ≡ n
   unfolding termsFrom
   from-length k zero = refl
   from-length k (suc n) = ap suc (from-length (k + 1) n)
 
-  from-at : (k n i : ℕ) (other : Term) → i < n → getD (termsFrom table k n) i other ≡ termAt table (k + i)
+  pub from-at : (k n i : ℕ) (other : Term) → i < n → getD (termsFrom kind table k n) i other ≡ termAt kind table (k + i)
   unfolding termsFrom
   from-at k zero i other h = absurd (omega arith)
-  from-at k (suc n) zero other h = ap (termAt table) (omega arith)
-  from-at k (suc n) (suc i) other h = from-at (k + 1) n i other (omega arith) ∙ ap (termAt table) (omega arith)
+  from-at k (suc n) zero other h = ap (termAt kind table) (omega arith)
+  from-at k (suc n) (suc i) other h = from-at (k + 1) n i other (omega arith) ∙ ap (termAt kind table) (omega arith)
 
-  pub from-more : (k n : ℕ) → termsFrom table k (suc n) ≡ termsFrom table k n ++ (termAt table (k + n) ∷ [])
+  pub from-more : (k n : ℕ) → termsFrom kind table k (suc n) ≡ termsFrom kind table k n ++ (termAt kind table (k + n) ∷ [])
   unfolding termsFrom
-  from-more k zero = ap (λ (i : ℕ). termAt table i ∷ []) (omega arith)
+  from-more k zero = ap (λ (i : ℕ). termAt kind table i ∷ []) (omega arith)
   from-more k (suc n) =
       let last : k + 1 + n ≡ k + suc n = omega arith in
-      ap (λ (rest : List Term). termAt table k ∷ rest) (from-more (k + 1) n ∙ ap (λ (i : ℕ). termsFrom table (k + 1) n ++ (termAt table i ∷ [])) last)
+      ap (λ (rest : List Term). termAt kind table k ∷ rest) (from-more (k + 1) n ∙ ap (λ (i : ℕ). termsFrom kind table (k + 1) n ++ (termAt kind table i ∷ [])) last)
 
-  pub terms-length : length (terms table) ≡ countTerms table
+  pub terms-length : length (terms kind table) ≡ countTerms kind table
   unfolding terms
-  terms-length = from-length 0 (countTerms table)
+  terms-length = from-length 0 (countTerms kind table)
 
-  pub terms-at : (k : ℕ) (other : Term) → k < countTerms table → getD (terms table) k other ≡ termAt table k
+  pub terms-at : (k : ℕ) (other : Term) → k < countTerms kind table → getD (terms kind table) k other ≡ termAt kind table k
   unfolding terms
-  terms-at k other h = from-at 0 (countTerms table) k other h ∙ ap (termAt table) (omega arith)
+  terms-at k other h = from-at 0 (countTerms kind table) k other h ∙ ap (termAt kind table) (omega arith)

@@ -1,7 +1,9 @@
 pub mod Pieces
 pub mod Bits
 pub mod Pack
+pub mod Long
 pub mod Packed
+pub mod Tables
 pub mod Bounds
 pub mod Sound
 pub mod First

@@ -1,6 +1,6 @@
--- How a term is packed: its fields as pieces, and the pieces' number as nine bytes; and a list of terms packed into a table. Assumes nothing.
+-- How a term is packed: its fields as pieces, and the pieces' number as nine bytes. Assumes nothing.
 use Prim.Native.Nat.{ℕ, zero, suc, _+_, _*_, _/_, _%_, _^_}
-use mathlib.Core.List.{List, [], _∷_, _++_}
+use mathlib.Core.List.{List, [], _∷_}
 use mathlib.Core.Bool.{Bool, cond}
 use Rattle.term.specs.declared.Term.{Term}
 use Rattle.term.specs.Pieces.{Piece, joined}
@@ -31,8 +31,3 @@ headOf term = ((term .c * 16 + term .d) * 32 + term .t) * 2 + signBit (term .neg
 -- a term as its nine bytes
 unfoldable pub pack : Term → List ℕ
 pack term = bytesOf 9 (joined (pieces term))
-
--- terms packed one behind the other
-unfoldable pub packTable : List Term → List ℕ
-packTable [] = []
-packTable (term ∷ rest) = pack term ++ packTable rest

@@ -9,4 +9,4 @@ row38 = 0xD5 ∷ 0xF0 ∷ 0x00 ∷ 0x6E ∷ 0x9B ∷ 0x73 ∷ 0xB1 ∷ 0x85 ∷ 
 
 -- the coefficient -0.1216139400 x 10^-1 in units of 10^-16
 unfoldable pub fields38 : Term
-fields38 = record { c = 3; d = 5; t = 15; negative = true; magnitude = 121_613_940_000_000 }
+fields38 = record { c = 3; factor = 100; d = 5; t = 15; negative = true; magnitude = 121_613_940_000_000 }

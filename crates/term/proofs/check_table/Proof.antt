@@ -2,7 +2,7 @@
 use borrow.Author.Needs.{needs}
 use mathlib.Core.Path.{refl, sym, _∙_}
 use Rattle.term.specs.Sound.{tableAnswer}
-use Rattle.term.proofs.Rules.{soundLength-whole, place-none, place-some}
+use Rattle.term.proofs.Rules.{soundLength-whole, whole-widest, place-none, place-some}
 use Rattle.term.proofs.check_table.Statement.{statement}
 use Rattle.term.proofs.check_table.Tie as tie
 
@@ -10,7 +10,7 @@ sound-length-requires : tie.Need-sound-length-requires
 sound-length-requires c κs = search needs
 
 first-broken-requires : tie.Need-first-broken-requires
-first-broken-requires c κs = soundLength-whole _ (sym (c .before .sound-length .ensures) ∙ c .if1 .taken) .most
+first-broken-requires c κs = whole-widest (soundLength-whole _ _ (sym (c .before .sound-length .ensures) ∙ c .if1 .taken))
 
 count-terms-requires : tie.Need-count-terms-requires
 count-terms-requires c κs = search needs

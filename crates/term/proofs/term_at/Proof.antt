@@ -1,60 +1,21 @@
--- `term::term_at` meets its contract: the reader takes each field where it lies. Assumes nothing.
-use borrow.Author.Needs.{needs}
-use mathlib.Core.Path.{refl}
-use Rattle.term.specs.Packed.{termAt, termFrom}
+-- `term::term_at` meets its contract, by the kind. Assumes nothing.
+use mathlib.Core.Path.{refl, sym, _∙_}
+use Rattle.kind.proofs.Either.{by-long, by-plain}
+use Rattle.term.proofs.Rules.{at-long, at-plain}
 use Rattle.term.proofs.term_at.Statement.{statement}
 use Rattle.term.proofs.term_at.Tie as tie
 
-mul-first : tie.Need-mul-first
-mul-first c = search needs
+long-at-requires : tie.Need-long-at-requires
+long-at-requires c κs = rw (by-long (c .before .before .args .kind) 9 12 (c .if1 .taken)) at (c .before .before .pre)
 
-read-field-requires : tie.Need-read-field-requires
-read-field-requires c κs = search needs
-
-add-read-field : tie.Need-add-read-field
-add-read-field c = search needs
-
-read-field-requires-2 : tie.Need-read-field-requires-2
-read-field-requires-2 c κs = search needs
-
-add-read-field-2 : tie.Need-add-read-field-2
-add-read-field-2 c = search needs
-
-read-field-requires-3 : tie.Need-read-field-requires-3
-read-field-requires-3 c κs = search needs
-
-add-read-field-3 : tie.Need-add-read-field-3
-add-read-field-3 c = search needs
-
-read-field-requires-4 : tie.Need-read-field-requires-4
-read-field-requires-4 c κs = search needs
-
-add-read-field-4 : tie.Need-add-read-field-4
-add-read-field-4 c = search needs
-
-read-field-requires-5 : tie.Need-read-field-requires-5
-read-field-requires-5 c κs = search needs
+plain-at-requires : tie.Need-plain-at-requires
+plain-at-requires c κs = rw (by-plain (c .before .before .args .kind) 9 12 (c .if1 .left)) at (c .before .before .pre)
 
 returns : tie.Need-returns
-unfolding termAt termFrom
-returns c = (
-  rw
-      (c .before .before .before .before .read-field .ensures, c .before .before .before .read-field2 .ensures, c .before .before .read-field3 .ensures, c .before .read-field4 .ensures, c .read-field5 .ensures),
-  refl,
-)
+returns c = (c .long-at .ensures ∙ sym (at-long _ _ _ (c .before .if1 .taken)), refl)
+
+returns-2 : tie.Need-returns-2
+returns-2 c = (c .plain-at .ensures ∙ sym (at-plain _ _ _ (c .before .if1 .left)), refl)
 
 pub term-at-spec : {M : Type 1} → statement M
-term-at-spec =
-    tie.close
-    (tie.spec
-    mul-first
-    read-field-requires
-    add-read-field
-    read-field-requires-2
-    add-read-field-2
-    read-field-requires-3
-    add-read-field-3
-    read-field-requires-4
-    add-read-field-4
-    read-field-requires-5
-    returns)
+term-at-spec = tie.close (tie.spec long-at-requires plain-at-requires returns returns-2)
