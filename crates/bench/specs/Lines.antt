@@ -13,13 +13,13 @@ use Rattle.line.specs.Proposal.{proposalOf}
 unfoldable pub answerLine : ℕ → Answer → List ℕ
 answerLine count answer = lineOf count (number answer) (place answer) (bits (handed answer .lower)) (bits (handed answer .upper))
 
-unfoldable pub pairOf : ℕ → List ℕ → Proposal → Answer
-pairOf w table p = pairAnswer w table (p .temperature) (p .liquid) (p .vapour) (p .«pressure_tolerance») (p .«gibbs_tolerance»)
+unfoldable pub pairOf : (w kind : ℕ) → List ℕ → Proposal → Answer
+pairOf w kind table p = pairAnswer w kind table (p .temperature) (p .liquid) (p .vapour) (p .«pressure_tolerance») (p .«gibbs_tolerance»)
 
--- a whole proposal: the pair check's answer at the width w
-unfoldable pub proposalLine : ℕ → List ℕ → ℕ → List ℕ → List ℕ
-proposalLine w table count bytes = answerLine count (pairOf w table (proposalOf bytes))
+-- a whole proposal: the pair check's answer at the width w, for a table of the kind
+unfoldable pub proposalLine : (w kind : ℕ) → List ℕ → ℕ → List ℕ → List ℕ
+proposalLine w kind table count bytes = answerLine count (pairOf w kind table (proposalOf bytes))
 
--- one that is cut short: 12, and zeros, whatever the width
+-- one that is cut short: 12, and zeros, whatever the width and the kind
 unfoldable pub cutLine : ℕ → List ℕ
 cutLine count = lineOf count 12 0 0 0

@@ -5,8 +5,8 @@ ghost use Rattle.bench.specs.Lines.{proposalLine, cutLine};
 use line::Line;
 use verdict::State;
 
-pub fn answer_line(width: u64, table: &[u8], count: u64, proposal: &[u8; 40]) -> Line
-    ensures { λ r. ⌜ r ≡ held (proposalLine width (now (table .entry)) count (now (proposal .entry))) ⌝ }
+pub fn answer_line(width: u64, kind: u64, table: &[u8], count: u64, proposal: &[u8; 40]) -> Line
+    ensures { λ r. ⌜ r ≡ held (proposalLine width kind (now (table .entry)) count (now (proposal .entry))) ⌝ }
     ensures { λ r. ⌜ Within r ⌝ }
 {
     let p = line::read_proposal(proposal);
@@ -16,6 +16,7 @@ pub fn answer_line(width: u64, table: &[u8], count: u64, proposal: &[u8; 40]) ->
     };
     let answer = verdict::pair_check(
         width,
+        kind,
         table,
         liquid,
         p.vapour,

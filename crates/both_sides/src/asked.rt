@@ -32,7 +32,7 @@ pub fn sheet(width: u64, table: &[u8], temperature: f64, density: f64) {
         temperature,
         density,
     };
-    let values = reading::of_sheet(verdict::state_sheet(width, table, state));
+    let values = reading::of_sheet(verdict::state_sheet(width, 38, table, state));
     whole(values[0]);
     whole(values[1]);
     words::next(values[2]);
@@ -54,7 +54,7 @@ pub fn density(
         temperature,
         density,
     };
-    let answer = verdict::density_check(width, table, state, target, tolerance);
+    let answer = verdict::density_check(width, 38, table, state, target, tolerance);
     check(reading::of_check(answer));
 }
 
@@ -73,6 +73,7 @@ pub fn pair(
     };
     let answer = verdict::pair_check(
         width,
+        38,
         table,
         state,
         vapour,

@@ -1,8 +1,8 @@
 // Reads states and pairs from standard input and writes the f64s of their brackets, a line each, for a comparison bit for bit. A
-// record is the width (32 or 53), a table (its length as a word, its bytes, zero bytes up to a multiple of eight), the temperature, and the
-// density of a state or of a liquid; a word above 600 behind them is the vapour's density of a pair. A state's line has its pressure and
-// stiffness; a pair's the liquid's pressure, the vapour's, the gap of the two, the Gibbs gap, and both stiffnesses. What is not accepted, as
-// another width, has an empty line. Assumes nothing.
+// record is the width (32 or 53), the kind of table (38 or 58), a table (its length as a word, its bytes, zero bytes up to a multiple of
+// eight), the temperature, and the density of a state or of a liquid; a word above 800 behind them is the vapour's density of a pair. A
+// state's line has its pressure and stiffness; a pair's the liquid's pressure, the vapour's, the gap of the two, the Gibbs gap, and both
+// stiffnesses. What is not accepted, as another width, has an empty line. Assumes nothing.
 use bracket::Bracket;
 use libc::STDIN_FILENO;
 use sheet::Sheet;
@@ -13,6 +13,7 @@ ghost use Prim.Native.Nat.{_^_, _≤_, _<_};
 ghost use lib.Dec.{T};
 ghost use lib.ListN.{length};
 ghost use Rattle.sheet.specs.Range.{Width, Doubled};
+ghost use Rattle.kind.specs.Kind.{widest};
 ghost use Rattle.doubles.specs.Range.{acceptedTemperature, acceptedDensity};
 ghost use Rattle.bracket.specs.Held.{Ends};
 ghost use Rattle.series.specs.Pair.{Pair};
@@ -63,21 +64,21 @@ fn add_ends(b: Bracket)
     words::next(bits(b.hi));
 }
 
-fn write_state(v: u64, table: &[u8], t: f64, rho: f64)
-    requires { ⌜ soundTable (now table) ≡ true ⌝ }
-    requires { ⌜ Width v × T (acceptedTemperature t) × T (acceptedDensity rho) ⌝ }
+fn write_state(v: u64, kind: u64, table: &[u8], t: f64, rho: f64)
+    requires { ⌜ soundTable kind (now table) ≡ true ⌝ }
+    requires { ⌜ Width v × T (acceptedTemperature widest t) × T (acceptedDensity widest rho) ⌝ }
 {
-    let s = equation::sums_of(v, table, t, rho);
+    let s = equation::sums_of(v, kind, table, t, rho);
     write_ends(equation::pressure_of(v, t, rho, s));
     add_ends(equation::stiffness_of(v, t, s));
 }
 
-fn write_pair(v: u64, table: &[u8], t: f64, liquid: f64, vapour: f64)
-    requires { ⌜ soundTable (now table) ≡ true ⌝ }
-    requires { ⌜ Width v × T (acceptedTemperature t) × Pair liquid vapour ⌝ }
+fn write_pair(v: u64, kind: u64, table: &[u8], t: f64, liquid: f64, vapour: f64)
+    requires { ⌜ soundTable kind (now table) ≡ true ⌝ }
+    requires { ⌜ Width v × T (acceptedTemperature widest t) × Pair liquid vapour ⌝ }
 {
-    let l = equation::sums_of(v, table, t, liquid);
-    let g = equation::sums_of(v, table, t, vapour);
+    let l = equation::sums_of(v, kind, table, t, liquid);
+    let g = equation::sums_of(v, kind, table, t, vapour);
     let of_liquid = equation::pressure_of(v, t, liquid, l);
     let of_vapour = equation::pressure_of(v, t, vapour, g);
     write_ends(of_liquid);
@@ -89,10 +90,10 @@ fn write_pair(v: u64, table: &[u8], t: f64, liquid: f64, vapour: f64)
 }
 
 // Whether the table is sound.
-fn sound(table: &[u8]) -> bool
-    ensures { λ r. ⌜ (r ≡ true → soundTable (now (table .entry)) ≡ true) ⌝ }
+fn sound(kind: u64, table: &[u8]) -> bool
+    ensures { λ r. ⌜ (r ≡ true → soundTable kind (now (table .entry)) ≡ true) ⌝ }
 {
-    let answer = term::check_table(table);
+    let answer = term::check_table(kind, table);
     match answer {
         Table::Sound(count) => 0 < count,
         Table::Length => false,
@@ -100,13 +101,13 @@ fn sound(table: &[u8]) -> bool
     }
 }
 
-fn state_line(width: u64, table: &[u8], t: f64, rho: f64) {
+fn state_line(width: u64, kind: u64, table: &[u8], t: f64, rho: f64) {
     let v = words::digits_of(width);
     if 0 < v {
-        if sound(table) {
-            if doubles::range::accepts_temperature(t) {
-                if doubles::range::accepts_density(rho) {
-                    write_state(v, table, t, rho);
+        if sound(kind, table) {
+            if doubles::range::accepts_temperature(58, t) {
+                if doubles::range::accepts_density(58, rho) {
+                    write_state(v, kind, table, t, rho);
                 }
             }
         }
@@ -114,15 +115,15 @@ fn state_line(width: u64, table: &[u8], t: f64, rho: f64) {
     words::end_line();
 }
 
-fn pair_line(width: u64, table: &[u8], t: f64, liquid: f64, vapour: f64) {
+fn pair_line(width: u64, kind: u64, table: &[u8], t: f64, liquid: f64, vapour: f64) {
     let v = words::digits_of(width);
     if 0 < v {
-        if sound(table) {
-            if doubles::range::accepts_temperature(t) {
-                if doubles::range::accepts_density(liquid) {
-                    if doubles::range::accepts_density(vapour) {
+        if sound(kind, table) {
+            if doubles::range::accepts_temperature(58, t) {
+                if doubles::range::accepts_density(58, liquid) {
+                    if doubles::range::accepts_density(58, vapour) {
                         if doubles::range::at_most(vapour, liquid) {
-                            write_pair(v, table, t, liquid, vapour);
+                            write_pair(v, kind, table, t, liquid, vapour);
                         }
                     }
                 }
@@ -133,55 +134,58 @@ fn pair_line(width: u64, table: &[u8], t: f64, liquid: f64, vapour: f64) {
 }
 
 // The line of a record whose first density is `rho`, by the word behind it; what is left is the next record's first word.
-fn line(width: u64, table: &[u8], t: f64, rho: f64) -> Next {
+fn line(width: u64, kind: u64, table: &[u8], t: f64, rho: f64) -> Next {
     let behind = next_word();
     match behind {
         Next::Word(word) => {
-            if word <= 600 {
-                state_line(width, table, t, rho);
+            if word <= 800 {
+                state_line(width, kind, table, t, rho);
                 Next::Word(word)
             } else {
-                pair_line(width, table, t, rho, double(word));
+                pair_line(width, kind, table, t, rho, double(word));
                 next_word()
             }
         }
         Next::End => {
-            state_line(width, table, t, rho);
+            state_line(width, kind, table, t, rho);
             Next::End
         }
     }
 }
 
-fn numbers(width: u64, table: &[u8]) -> Next {
+fn numbers(width: u64, kind: u64, table: &[u8]) -> Next {
     let Next::Word(t) = next_word() else {
         return Next::End;
     };
     let Next::Word(rho) = next_word() else {
         return Next::End;
     };
-    line(width, table, double(t), double(rho))
+    line(width, kind, table, double(t), double(rho))
 }
 
 // Reads a table of `count` bytes with its padding into the buffer, and the rest of its record.
-fn read_table(width: u64, buffer: &mut [u8], count: usize) -> Next
-    requires { ⌜ (count ≤ 600) × (600 ≤ length (now buffer)) ⌝ }
+fn read_table(width: u64, kind: u64, buffer: &mut [u8], count: usize) -> Next
+    requires { ⌜ (count ≤ 800) × (800 ≤ length (now buffer)) ⌝ }
 {
     let padded = (count + 7) / 8 * 8;
     if io::read_full(STDIN_FILENO, &mut buffer[..padded]) < padded {
         return Next::End;
     }
-    numbers(width, &buffer[..count])
+    numbers(width, kind, &buffer[..count])
 }
 
 fn one_record(width: u64) -> Next {
+    let Next::Word(kind) = next_word() else {
+        return Next::End;
+    };
     let Next::Word(count) = next_word() else {
         return Next::End;
     };
-    if 600 < count {
+    if 800 < count {
         return Next::End;
     }
-    let mut buffer = [0u8; 600];
-    read_table(width, &mut buffer, count as usize)
+    let mut buffer = [0u8; 800];
+    read_table(width, kind, &mut buffer, count as usize)
 }
 
 fn main() {

@@ -5,4 +5,4 @@ pub mod BytesNumber
 pub mod Held
 pub mod Meaning
 pub mod Tried
-pub mod WidthWord
+pub mod Words

@@ -2,4 +2,4 @@
 pub mod Digits
 pub mod Line
 pub mod Proposal
-pub mod Width
+pub mod Word

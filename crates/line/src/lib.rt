@@ -1,8 +1,8 @@
-// What the bench program writes and reads, as bytes: the line for one answer, the numbers of one proposal, and the word for the width.
+// What the bench program writes and reads, as bytes: the line for one answer, the numbers of one proposal, and the words for the width and the kind.
 // Nothing that this crate offers has a `requires`, and nothing here reads or writes a file.
 mod digits;
 mod proposal;
-mod width;
+mod word;
 
 ghost use mathlib.Core.Path.{_≡_};
 ghost use Rattle.line.specs.Line.{Within, held, lineOf};
@@ -10,7 +10,8 @@ use digits::decimal;
 use digits::hex;
 pub use proposal::Proposal;
 pub use proposal::read_proposal;
-pub use width::width_of;
+pub use word::kind_of;
+pub use word::width_of;
 
 // A line's bytes stand at the front; the others are 0. No line of five u64s is longer than 97 bytes.
 pub struct Line {

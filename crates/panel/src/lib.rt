@@ -1,5 +1,5 @@
-// The calls of the bench panel, for C: one value of an answer at a width of 32 or 53 bits, by a choice. The table's bytes are lent, and only
-// read.
+// The calls of the bench panel, for C: one value of an answer at a width of 32 or 53 bits and for a kind of table, 38 or 58, by a choice.
+// The table's bytes are lent, and only read.
 // 0 the number, 1 the place, 2 to 5 the ends in order as f64 bits; anything that the answer does not have is 0.
 // `typed` has the calls on tables typed as text.
 mod typed;
@@ -12,15 +12,22 @@ use verdict::State;
 
 // The state sheet: 2 and 3 the ends of pressure, 4 and 5 those of stiffness.
 #[no_mangle]
-pub extern "C" fn wb_state(width: u64, table: &[u8], t: f64, rho: f64, choice: u64) -> u64
-    ensures { λ r. ⌜ r ≡ sheetChosen (stateAnswer width (now (table .entry)) t rho) choice ⌝ }
+pub extern "C" fn wb_state(
+    width: u64,
+    kind: u64,
+    table: &[u8],
+    t: f64,
+    rho: f64,
+    choice: u64,
+) -> u64
+    ensures { λ r. ⌜ r ≡ sheetChosen (stateAnswer width kind (now (table .entry)) t rho) choice ⌝ }
     ensures { λ _. ⌜ now (table .exit) ≡ now (table .entry) ⌝ }
 {
     let state = State {
         temperature: t,
         density: rho,
     };
-    let values = reading::of_sheet(verdict::state_sheet(width, table, state));
+    let values = reading::of_sheet(verdict::state_sheet(width, kind, table, state));
     at(&values, choice)
 }
 
@@ -28,6 +35,7 @@ pub extern "C" fn wb_state(width: u64, table: &[u8], t: f64, rho: f64, choice: u
 #[no_mangle]
 pub extern "C" fn wb_density(
     width: u64,
+    kind: u64,
     table: &[u8],
     t: f64,
     rho: f64,
@@ -35,14 +43,14 @@ pub extern "C" fn wb_density(
     tolerance: f64,
     choice: u64,
 ) -> u64
-    ensures { λ r. ⌜ r ≡ chosen (densityAnswer width (now (table .entry)) t rho target tolerance) choice ⌝ }
+    ensures { λ r. ⌜ r ≡ chosen (densityAnswer width kind (now (table .entry)) t rho target tolerance) choice ⌝ }
     ensures { λ _. ⌜ now (table .exit) ≡ now (table .entry) ⌝ }
 {
     let state = State {
         temperature: t,
         density: rho,
     };
-    let answer = verdict::density_check(width, table, state, target, tolerance);
+    let answer = verdict::density_check(width, kind, table, state, target, tolerance);
     let values = reading::of_check(answer);
     at(&values, choice)
 }
@@ -51,6 +59,7 @@ pub extern "C" fn wb_density(
 #[no_mangle]
 pub extern "C" fn wb_pair(
     width: u64,
+    kind: u64,
     table: &[u8],
     t: f64,
     liquid: f64,
@@ -59,7 +68,7 @@ pub extern "C" fn wb_pair(
     gibbs_tolerance: f64,
     choice: u64,
 ) -> u64
-    ensures { λ r. ⌜ r ≡ chosen (pairAnswer width (now (table .entry)) t liquid vapour «pressure_tolerance» «gibbs_tolerance») choice ⌝ }
+    ensures { λ r. ⌜ r ≡ chosen (pairAnswer width kind (now (table .entry)) t liquid vapour «pressure_tolerance» «gibbs_tolerance») choice ⌝ }
     ensures { λ _. ⌜ now (table .exit) ≡ now (table .entry) ⌝ }
 {
     let state = State {
@@ -68,6 +77,7 @@ pub extern "C" fn wb_pair(
     };
     let answer = verdict::pair_check(
         width,
+        kind,
         table,
         state,
         vapour,

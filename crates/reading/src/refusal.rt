@@ -9,6 +9,7 @@ pub fn number(why: Refusal) -> u64
 {
     match why {
         Refusal::Width => 19,
+        Refusal::Kind => 29,
         Refusal::TableLength => 1,
         Refusal::BrokenTerm(_) => 2,
         Refusal::Temperature => 3,
@@ -25,6 +26,7 @@ pub fn place(why: Refusal) -> u64
 {
     match why {
         Refusal::Width => 0,
+        Refusal::Kind => 0,
         Refusal::TableLength => 0,
         Refusal::BrokenTerm(at) => at as u64,
         Refusal::Temperature => 0,

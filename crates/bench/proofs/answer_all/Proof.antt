@@ -5,10 +5,10 @@ use Rattle.bench.proofs.answer_all.Statement.{statement}
 use Rattle.bench.proofs.answer_all.Tie as tie
 
 abbrev Inv-loop : tie.InvT-loop
-Inv-loop width table count₀ count = Unit {0}
+Inv-loop width kind table count₀ count = Unit {0}
 
 abbrev μ-loop : tie.MeasureT-loop
-μ-loop width table count₀ count = 18446744073709551615 - count
+μ-loop width kind table count₀ count = 18446744073709551615 - count
 
 loop-holds : tie.Need-loop-holds Inv-loop μ-loop
 loop-holds c = tt

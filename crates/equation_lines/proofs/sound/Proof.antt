@@ -22,8 +22,8 @@ returns : tie.Need-returns
 returns c =
     let arm = c .before .answer .given in
     let checked = c .before .before .before in
-    let table = checked .before .before .args .table .now in
-    λ _. answer-sound table (arm .0 .0) (sym (checked .check-table .ensures .0) ∙ arm .1) .0
+    let a = checked .before .before .args in
+    λ _. answer-sound (a .kind) (a .table .now) (arm .0 .0) (sym (checked .check-table .ensures .0) ∙ arm .1) .0
 
 returns-2 : tie.Need-returns-2
 returns-2 c = λ e. absurd (false≢true e)

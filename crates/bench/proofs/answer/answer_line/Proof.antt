@@ -36,7 +36,7 @@ returns : tie.Need-returns
 unfolding proposalLine answerLine pairOf checkValues
 returns c =
     let a = c .before .before .before .before .before .args in
-    let answered = c .before .before .pair-check .ensures .0 ∙ ap (pairOf (a .width) (a .table .now)) (c .before .before .before .read-proposal .ensures) in (
+    let answered = c .before .before .pair-check .ensures .0 ∙ ap (pairOf (a .width) (a .kind) (a .table .now)) (c .before .before .before .read-proposal .ensures) in (
       c .of-answer .ensures .0
           ∙ ap (λ v. held (lineOf (a .count) (getD v 0 0) (getD v 1 0) (getD v 2 0) (getD v 3 0)))
           (c .before .of-check .ensures ∙ ap checkValues answered),

@@ -1,8 +1,8 @@
--- `line::width::spells` meets its contract: at each return the tests that led there decide the rule. Assumes nothing.
+-- `line::word::spells` meets its contract: at each return the tests that led there decide the rule. Assumes nothing.
 use borrow.Author.Needs.{needs}
 use borrow.Author.Tests.{eq-eqb, ne-eqb}
-use Rattle.line.proofs.width.spells.Statement.{statement}
-use Rattle.line.proofs.width.spells.Tie as tie
+use Rattle.line.proofs.word.spells.Statement.{statement}
+use Rattle.line.proofs.word.spells.Tie as tie
 
 returns : tie.Need-returns
 returns c = rw (ne-eqb _ 2 (c .if1 .taken))
