@@ -9,4 +9,5 @@ pub mod Packing
 pub mod Bytes
 pub mod Reading
 pub mod Repacked
+pub mod SoundTables
 pub mod Cases

@@ -12,7 +12,7 @@ use Rattle.term.specs.declared.Term.{Term}
 use Rattle.term.specs.Pieces.{Piece, wide, joined, Fit}
 use Rattle.term.specs.Bits.{eight, number, field, Bytes}
 use Rattle.term.specs.Pack.{bytesOf, pieces, pack}
-use Rattle.term.specs.Long.{longFrom, longPieces, packLong}
+use Rattle.term.specs.Long.{longFrom, spareBits, longPieces, packLong}
 use Rattle.term.specs.Packed.{plainFactor, plainFrom}
 use Rattle.term.specs.Bounds.{WithinFields, WithinLong}
 use Rattle.term.proofs.Joined.{wide-append, joined-below, joined-cut}
@@ -110,3 +110,21 @@ long-read term f =
       piece-read (a ∷ b ∷ c ∷ d ∷ e ∷ []) g (h ∷ []) 12 fit refl,
       sign-back (term .negative),
     )
+
+-- no spare bit of a packed term is set
+pub spare-none : (term : Term) → WithinLong term → spareBits (packLong term) 0 ≡ 0
+unfolding spareBits packLong longPieces wide
+spare-none term f =
+    piece-read
+    (record { bits = 4; value = term .c }
+    ∷ record { bits = 10; value = term .factor }
+    ∷ record { bits = 5; value = term .d }
+    ∷ record { bits = 6; value = term .t }
+    ∷ record { bits = 1; value = cond (term .negative) 1 0 }
+    ∷ record { bits = 60; value = term .magnitude }
+    ∷ [])
+    (record { bits = 10; value = 0 })
+    []
+    12
+    (long-fit term f)
+    refl

@@ -16,10 +16,10 @@ use Rattle.term.specs.Bounds.{WithinKind, AllWithin}
 use Rattle.term.specs.Pack.{pack, pieces}
 use Rattle.term.specs.Long.{longFrom, spareBits, longPieces, packLong}
 use Rattle.term.specs.Pieces.{joined}
-use Rattle.term.specs.Packed.{plainFrom, termFrom, spareFrom, termAt, termsFrom, terms}
+use Rattle.term.specs.Packed.{plainFrom, termFrom, spareFrom, termAt, spareAt, termsFrom, terms}
 use Rattle.term.specs.Tables.{packTerm, packTable}
 use Rattle.term.proofs.Fields.{field-within}
-use Rattle.term.proofs.Packing.{bytesOf-length, bytesOf-bytes, pack-read, long-read}
+use Rattle.term.proofs.Packing.{bytesOf-length, bytesOf-bytes, pack-read, long-read, spare-none}
 
 -- a term that lies within some bytes of a table is the term of those bytes
 module _ (before bytes after : List ℕ) (small : Bytes after) where
@@ -100,6 +100,21 @@ module _ (kind : ℕ) where
   termAt-pack before term after k h small fields =
       rw (← h) (term-within before (packTerm kind term) after small kind (pack-length term) ∙ term-read term fields)
 
+  -- and no spare bit is set
+  spare-read : (term : Term) → WithinKind kind term → spareFrom kind (packTerm kind term) 0 ≡ 0
+  unfolding spareFrom packTerm
+  spare-read term w = go (eqb kind 58) refl
+    where
+      go : (b : Bool) → eqb kind 58 ≡ b → spareFrom kind (packTerm kind term) 0 ≡ 0
+      go true e = rw e (spare-none term (w .long (eqb-true kind 58 e)))
+      go false e = rw e
+
+  pub spareAt-pack : (before : List ℕ) (term : Term) (after : List ℕ) (k : ℕ) → length before ≡ termBytes kind * k → Bytes after → WithinKind kind term
+      → spareAt kind (before ++ (packTerm kind term ++ after)) k ≡ 0
+  unfolding spareAt
+  spareAt-pack before term after k h small fields =
+      rw (← h) (spare-within before (packTerm kind term) after small kind (pack-length term) ∙ spare-read term fields)
+
   -- ---- terms packed into a table
 
   bytes-append : (xs ys : List ℕ) → Bytes xs → Bytes ys → Bytes (xs ++ ys)
@@ -120,14 +135,18 @@ module _ (kind : ℕ) where
   packTable-length [] = by-either kind (λ one. 0 ≡ one * 0) (omega arith) (omega arith)
   packTable-length (t ∷ ts) = omega (arith, length-append (packTerm kind t) (packTable kind ts), pack-length t, packTable-length ts, one-more (length ts))
 
+  pub pack-next : (before : List ℕ) (term : Term) (k : ℕ) → length before ≡ termBytes kind * k → length (before ++ packTerm kind term) ≡ termBytes kind * (k + 1)
+  pack-next before term k h =
+      let n : ℕ = length (packTerm kind term) in
+      length-append before (packTerm kind term)
+      ∙ by-either kind (λ one. length before ≡ one * k → n ≡ one → length before + n ≡ one * (k + 1)) (λ p q. omega arith) (λ p q. omega arith) h (pack-length term)
+
   rest-read : (before : List ℕ) (ts : List Term) (k : ℕ) → length before ≡ termBytes kind * k → AllWithin kind ts → termsFrom kind (before ++ packTable kind ts) k (length ts) ≡ ts
   unfolding packTable termsFrom
   rest-read before [] k h fields = refl
   rest-read before (t ∷ ts) k h fields =
-      let next : length (before ++ packTerm kind t) ≡ termBytes kind * (k + 1) =
-      length-append before (packTerm kind t) ∙ by-either kind (λ one. length before ≡ one * k → length (packTerm kind t) ≡ one → length before + length (packTerm kind t) ≡ one * (k + 1)) (λ p q. omega arith) (λ p q. omega arith) h (pack-length t) in
       let later : termsFrom kind (before ++ (packTerm kind t ++ packTable kind ts)) (k + 1) (length ts) ≡ ts =
-      rw (← append-assoc before (packTerm kind t) (packTable kind ts)) (rest-read (before ++ packTerm kind t) ts (k + 1) next (fields .1)) in
+      rw (← append-assoc before (packTerm kind t) (packTable kind ts)) (rest-read (before ++ packTerm kind t) ts (k + 1) (pack-next before t k h) (fields .1)) in
       rw (termAt-pack before t (packTable kind ts) k h (packTable-bytes ts) (fields .0), later)
 
   pub packTable-count : (ts : List Term) → length (packTable kind ts) / termBytes kind ≡ length ts
