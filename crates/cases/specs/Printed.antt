@@ -37,7 +37,7 @@ cases =
     ∷ bracketIs (minus 32 (whole 1) (ends (given 32 (parts false 1 3)))) (between (small false 2863311530 32) (small false 2863311531 32))
     ∷ bracketIs (expneg 32 (whole 0)) (between (small false (2 ^ 31) 31) (small false (2 ^ 31) 31))
     ∷ bracketIs (lnRatio 32 (nat 322) (nat 322)) (between plainZero plainZero)
-    ∷ termIs (termAt row38 0) fields38
+    ∷ termIs (termAt 38 row38 0) fields38
     ∷ bracketIs (given 53 (nat 1)) (between (small false 4503599627370496 52) (small false 4503599627370496 52))
     ∷ bracketIs (given 53 (parts false 1 3)) (between (small false 6004799503160661 54) (small false 6004799503160662 54))
     ∷ bracketIs (given 53 (parts true 1 3)) (between (small true 6004799503160662 54) (small true 6004799503160661 54))

@@ -7,8 +7,9 @@ use mathlib.Core.Bool.{Bool, true, false}
 use borrow.Author.Tests.{ltb-true, ltb-false, lt-ltb, le-leb}
 use lib.Dec.{ltb}
 use Rattle.term.specs.declared.Term.{Term}
-use Rattle.term.specs.Bounds.{WithinFields, Bounds}
-use Rattle.term.specs.Sound.{soundTerm}
+use Rattle.term.specs.Packed.{plainFactor}
+use Rattle.term.specs.Bounds.{WithinFields, Bounds, Plain}
+use Rattle.term.specs.Sound.{soundSize, soundTerm}
 use Rattle.row.specs.declared.Row.{Row}
 use Rattle.row.specs.Row.{Good, termOf}
 use Rattle.row.specs.Saying.{Power, Exact, RowOf}
@@ -45,15 +46,16 @@ exact-no m unit h =
       only = λ q k. absurd (h (ap (λ x. x % unit) (sym k) ∙ mul-mod-left q unit));
     }
 
-pub row-of-term : (term : Term) (p unit ten : ℕ) → Power (term .magnitude) p → unit ≡ 1 * 10 ^ p → Exact (term .magnitude) unit ten
+pub row-of-term : (term : Term) (p unit ten : ℕ) → term .factor ≡ plainFactor (term .c) → Power (term .magnitude) p → unit ≡ 1 * 10 ^ p → Exact (term .magnitude) unit ten
     → RowOf term (record { c = term .c; d = term .d; t = term .t; negative = term .negative; ten = ten; power = p })
 unfolding termOf
-row-of-term term p unit ten w u x =
+row-of-term term p unit ten f w u x =
     let one : unit ≡ 10 ^ p = omega arith in
     record {
       says = λ g.
           let m : ten * 10 ^ p ≡ term .magnitude = ap (λ n. ten * n) (sym one) ∙ x .whole (omega (arith, g .ten-above)) in
-          λ i. record { c = term .c; d = term .d; t = term .t; negative = term .negative; magnitude = m i };
+          let ef : plainFactor (term .c) ≡ term .factor = sym f in
+          λ i. record { c = term .c; factor = ef i; d = term .d; t = term .t; negative = term .negative; magnitude = m i };
       only = λ r g e.
           let m : r .ten * 10 ^ r .power ≡ term .magnitude = ap (λ y. y .magnitude) e in
           let same : r .power ≡ p = power-same (term .magnitude) p (r .ten) (r .power) w (g .ten-above) (g .ten-below) (g .power-most) m in
@@ -82,7 +84,7 @@ pub term-one : (a b : Row) → Good a → Good b → termOf a ≡ termOf b → a
 unfolding termOf
 term-one a b ga gb e =
     let one : 1 * 10 ^ a .power ≡ 10 ^ a .power = omega arith in
-    row-of-term (termOf a) (a .power) (1 * 10 ^ a .power) (a .ten) (good-power a ga) refl
+    row-of-term (termOf a) (a .power) (1 * 10 ^ a .power) (a .ten) refl (good-power a ga) refl
     (record {
       whole = λ _. ap (λ n. a .ten * n) one;
       only = λ q k.
@@ -100,25 +102,27 @@ unfolding termOf
 good-fields row g =
     record {
       c-below = g .c-below;
+      factor-plain = refl;
       d-below = g .d-below;
       t-below = omega arith;
       magnitude-below = omega (arith, scaled-below (row .ten) (row .power) 7 (omega arith));
     }
 
--- what a good row says is a sound term
-pub good-sound : (row : Row) → Good row → soundTerm (termOf row) ≡ true
-unfolding soundTerm termOf
+-- what a good row says is a sound term of nine bytes
+pub good-sound : (row : Row) → Good row → soundTerm 38 (termOf row) ≡ true
+unfolding soundTerm soundSize termOf
 good-sound row g =
     let most : row .ten * 10 ^ row .power ≤ 10 ^ 17 = omega (arith, scaled-below (row .ten) (row .power) 7 (omega arith)) in
     let some : 0 < row .ten * 10 ^ row .power = mul-pos (omega (arith, g .ten-above)) (ten-pos (row .power)) in
     rw (lt-ltb 0 (row .d) (g .d-above), le-leb (row .t) 24 (g .t-most), lt-ltb 0 (row .ten * 10 ^ row .power) some, le-leb (row .ten * 10 ^ row .power) (10 ^ 17) most)
 
--- a sound term has a spelling where its magnitude is ten digits, the first not zero, times ten to a power from 0 to 7: nothing else counts
-pub digits-said : (term : Term) (ten power : ℕ) → Bounds term → 10 ^ 9 ≤ ten → ten < 10 ^ 10 → power ≤ 7 → ten * 10 ^ power ≡ term .magnitude
+-- a sound nine-byte term has a spelling where its magnitude is ten digits, the first not zero, times ten to a power from 0 to 7: nothing else counts
+pub digits-said : (term : Term) (ten power : ℕ) → Bounds term → Plain term → 10 ^ 9 ≤ ten → ten < 10 ^ 10 → power ≤ 7 → ten * 10 ^ power ≡ term .magnitude
     → (row : Row) × Good row × (termOf row ≡ term)
 unfolding termOf
-digits-said term ten power b above below most e =
+digits-said term ten power b p above below most e =
     let row : Row = record { c = term .c; d = term .d; t = term .t; negative = term .negative; ten = ten; power = power } in
     let good : Good row =
-    record { c-below = b .c-below; d-above = b .d-above; d-below = b .d-below; t-most = b .t-most; ten-above = above; ten-below = below; power-most = most } in
-    (row, good, λ i. record { c = term .c; d = term .d; t = term .t; negative = term .negative; magnitude = e i })
+    record { c-below = p .c-below; d-above = b .d-above; d-below = p .d-below; t-most = p .t-most; ten-above = above; ten-below = below; power-most = most } in
+    let ef : plainFactor (term .c) ≡ term .factor = sym (p .factor-plain) in
+    (row, good, λ i. record { c = term .c; factor = ef i; d = term .d; t = term .t; negative = term .negative; magnitude = e i })

@@ -5,6 +5,7 @@ use mathlib.Core.Bool.{Bool, true, false, cond, _&&_}
 use mathlib.Core.List.{List, [], _∷_, _++_}
 use lib.Dec.{ltb, leb}
 use Rattle.term.specs.declared.Term.{Term}
+use Rattle.term.specs.Packed.{plainFactor}
 use Rattle.row.specs.declared.Row.{Row}
 
 -- the bytes of a row: a digit, and what stands between
@@ -68,6 +69,7 @@ unfoldable pub goodRow : Row → Bool
 goodRow row =
     ltb (row .c) 4 && ltb 0 (row .d) && ltb (row .d) 16 && leb (row .t) 24 && leb (10 ^ 9) (row .ten) && ltb (row .ten) (10 ^ 10) && leb (row .power) 7
 
--- the term that a row says: 0.D x 10^(power - 6) is D x 10^power in units of 10^-16
+-- the term that a row says, with a nine-byte term's factor: 0.D x 10^(power - 6) is D x 10^power in units of 10^-16
 unfoldable pub termOf : Row → Term
-termOf row = record { c = row .c; d = row .d; t = row .t; negative = row .negative; magnitude = row .ten * 10 ^ row .power }
+termOf row =
+    record { c = row .c; factor = plainFactor (row .c); d = row .d; t = row .t; negative = row .negative; magnitude = row .ten * 10 ^ row .power }

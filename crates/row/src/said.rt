@@ -1,6 +1,7 @@
 // The term that a row says, and the one row that can say a term.
 ghost use mathlib.Core.Path.{_≡_};
 ghost use Prim.Native.Nat.{_*_, _^_, _<_, _≤_};
+ghost use Rattle.term.specs.Packed.{plainFactor};
 ghost use Rattle.row.specs.Row.{Good, termOf};
 ghost use Rattle.row.specs.Saying.{Power, Exact, RowOf};
 use super::Row;
@@ -12,6 +13,7 @@ pub fn term_of(row: Row) -> Term
 {
     Term {
         c: row.c,
+        factor: term::plain_factor(row.c),
         d: row.d,
         t: row.t,
         negative: row.negative,
@@ -61,8 +63,9 @@ fn exact(magnitude: u64, unit: u64) -> u64
     }
 }
 
-// The row is good exactly if the term has a spelling.
+// The row is good exactly if the nine-byte term has a spelling.
 pub fn row_of(term: Term) -> Row
+    requires { ⌜ term .factor ≡ plainFactor (term .c) ⌝ }
     ensures { λ r. ⌜ RowOf term r ⌝ }
 {
     let magnitude = term.magnitude;

@@ -28,22 +28,22 @@ pub spelling-one : {table : List ℕ} {n : ℕ} {xs ys : List Row} → Spelling 
 spelling-one {table} {n} {xs} {ys} p q = terms-one xs ys (p .good) (q .good) (p .said ∙ sym (q .said))
 
 -- each term of a table that rows say has a row
-spelled-at : (table : List ℕ) (rows : List Row) (s n k : ℕ) → AllGood rows → termsOf rows ≡ termsFrom table s n → k < n → (row : Row) × Good row × (termOf row ≡ termAt table (s + k))
+spelled-at : (table : List ℕ) (rows : List Row) (s n k : ℕ) → AllGood rows → termsOf rows ≡ termsFrom 38 table s n → k < n → (row : Row) × Good row × (termOf row ≡ termAt 38 table (s + k))
 unfolding termsOf termsFrom
 spelled-at table rows s zero k g e l = absurd (omega arith)
 spelled-at table [] s (suc n) k g e l = let z : _≡_ {A = ℕ} 0 1 = cc in absurd (omega arith)
 spelled-at table (r ∷ rows) s (suc n) zero g e l =
-    let h : termOf r ≡ termAt table s = cc in
-    (r, g .0, h ∙ ap (termAt table) (sym (add-zero s)))
+    let h : termOf r ≡ termAt 38 table s = cc in
+    (r, g .0, h ∙ ap (termAt 38 table) (sym (add-zero s)))
 spelled-at table (r ∷ rows) s (suc n) (suc k) g e l =
-    let t : termsOf rows ≡ termsFrom table (s + 1) n = cc in
+    let t : termsOf rows ≡ termsFrom 38 table (s + 1) n = cc in
     let w = spelled-at table rows (s + 1) n k (g .1) t (omega arith) in
-    (w .0, w .1, w .2 ∙ ap (termAt table) (omega arith))
+    (w .0, w .1, w .2 ∙ ap (termAt 38 table) (omega arith))
 
 pub spelling-not-unspelled : {table : List ℕ} {n place : ℕ} {rows : List Row} (p : Spelling table n rows) (q : FirstUnspelled table place) → q .k < n → ⊥
 spelling-not-unspelled {table} {n} {place} {rows} p q l =
     let w = spelled-at table rows 0 n (q .k) (p .good) (p .said) l in
-    q .here (w .0) (w .1) (w .2 ∙ ap (termAt table) (omega arith))
+    q .here (w .0) (w .1) (w .2 ∙ ap (termAt 38 table) (omega arith))
 
 pub unspelled-one : {table : List ℕ} {m n : ℕ} → FirstUnspelled table m → FirstUnspelled table n → m ≡ n
 unspelled-one {table} {m} {n} p q = by (ltb (p .k) (q .k)) (ltb (q .k) (p .k)) refl refl

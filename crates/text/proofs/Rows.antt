@@ -6,7 +6,9 @@ use mathlib.Core.List.{List, [], _∷_, _++_, append-assoc, append-nil}
 use lib.ListN.{length, drop, length-append, drop-of-length-le, length-drop}
 use lib.Seq.{sets, length-sets}
 use Rattle.lent.proofs.Behind.{behind}
-use Rattle.term.specs.Pack.{pack, packTable}
+use Rattle.kind.specs.Kind.{byKind}
+use Rattle.term.specs.Pack.{pack}
+use Rattle.term.specs.Tables.{packTerm, packTable}
 use Rattle.term.proofs.Reading.{pack-length, packTable-length}
 use Rattle.row.specs.declared.Row.{Row}
 use Rattle.row.specs.Row.{Good, rowText, termOf}
@@ -25,7 +27,7 @@ text-snoc [] row = append-nil (rowText row)
 text-snoc (r ∷ rows) row = ap (λ l. rowText r ++ l) (text-snoc rows row) ∙ sym (append-assoc (rowText r) (rowsText rows) (rowText row))
 
 pub packed-snoc : (rows : List Row) (row : Row) → packed (rows ++ (row ∷ [])) ≡ packed rows ++ pack (termOf row)
-unfolding packed termsOf packTable
+unfolding packed termsOf packTable packTerm
 packed-snoc [] row = append-nil (pack (termOf row))
 packed-snoc (r ∷ rows) row = ap (λ l. pack (termOf r) ++ l) (packed-snoc rows row) ∙ sym (append-assoc (pack (termOf r)) (packed rows) (pack (termOf row)))
 
@@ -35,8 +37,8 @@ terms-count [] = refl
 terms-count (r ∷ rows) = ap suc (terms-count rows)
 
 pub packed-length : (rows : List Row) → length (packed rows) ≡ 9 * length rows
-unfolding packed
-packed-length rows = packTable-length (termsOf rows) ∙ ap (λ n. 9 * n) (terms-count rows)
+unfolding packed byKind
+packed-length rows = packTable-length 38 (termsOf rows) ∙ ap (λ n. 9 * n) (terms-count rows)
 
 -- with `count` rows passed: they are good, they stand before the place, and their terms are at the table's front
 pub record Passed (text table₀ : List ℕ) (at count : ℕ) (table : List ℕ) : Type 0 where
@@ -70,8 +72,9 @@ passed-none text table₀ h =
 module _ {text table₀ : List ℕ} {at count : ℕ} {table : List ℕ} (p : Passed text table₀ at count table) where
   pub passed-more : (row : Row) (next : ℕ) (table′ : List ℕ) → count < 64 → RowAt text at row next
       → table′ ≡ sets table (9 * count) (pack (termOf row)) → Passed text table₀ next (count + 1) table′
+  unfolding packTerm byKind
   passed-more row next table′ l r e =
-      let nine : length (pack (termOf row)) ≡ 9 = pack-length (termOf row) in
+      let nine : length (pack (termOf row)) ≡ 9 = pack-length 38 (termOf row) in
       let long : length (packed (p .rows)) ≡ 9 * count = packed-length (p .rows) ∙ ap (λ n. 9 * n) (sym (p .counted)) in
       let place : 9 * (count + 1) ≡ 9 * count + length (pack (termOf row)) = omega (arith, nine) in
       record {

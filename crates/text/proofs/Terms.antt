@@ -30,7 +30,7 @@ pub record Done (table text₀ : List ℕ) (at i : ℕ) (text : List ℕ) : Type
   pub rows : List Row
   pub spelling : Spelling table i rows
   pub reached : at ≡ length (rowsText rows)
-  pub most : i ≤ countTerms table
+  pub most : i ≤ countTerms 38 table
   pub near : at ≤ 26 * i
   pub room : length text₀ ≡ 1664
   pub full : length text ≡ 1664
@@ -51,17 +51,17 @@ done-none table text₀ h =
     }
 
 module _ {table text₀ : List ℕ} {at i : ℕ} {text : List ℕ} (p : Done table text₀ at i text) where
-  pub done-more : (row : Row) (next : ℕ) (text′ : List ℕ) → countTerms table ≤ 64 → i < countTerms table → Good row → termOf row ≡ termAt table i
+  pub done-more : (row : Row) (next : ℕ) (text′ : List ℕ) → countTerms 38 table ≤ 64 → i < countTerms 38 table → Good row → termOf row ≡ termAt 38 table i
       → next ≡ at + length (rowText row) → text′ ≡ sets text at (rowText row) → Done table text₀ next (i + 1) text′
   done-more row next text′ few l g t n e =
-      let last : termsFrom table 0 (i + 1) ≡ termsFrom table 0 i ++ (termAt table i ∷ []) =
-      ap (termsFrom table 0) (add-one i) ∙ from-more table 0 i ∙ ap (λ k. termsFrom table 0 i ++ (termAt table k ∷ [])) (zero-add i) in
+      let last : termsFrom 38 table 0 (i + 1) ≡ termsFrom 38 table 0 i ++ (termAt 38 table i ∷ []) =
+      ap (termsFrom 38 table 0) (add-one i) ∙ from-more 38 table 0 i ∙ ap (λ k. termsFrom 38 table 0 i ++ (termAt 38 table k ∷ [])) (zero-add i) in
       record {
         rows = p .rows ++ (row ∷ []);
         spelling =
             record {
               good = good-snoc (p .rows) row (p .spelling .good) g;
-              said = terms-snoc (p .rows) row ∙ ap (λ x. x ++ (termOf row ∷ [])) (p .spelling .said) ∙ ap (λ x. termsFrom table 0 i ++ (x ∷ [])) t ∙ sym last;
+              said = terms-snoc (p .rows) row ∙ ap (λ x. x ++ (termOf row ∷ [])) (p .spelling .said) ∙ ap (λ x. termsFrom 38 table 0 i ++ (x ∷ [])) t ∙ sym last;
             };
         reached = n ∙ ap (λ k. k + length (rowText row)) (p .reached) ∙ sym (ap length (text-snoc (p .rows) row) ∙ length-append (rowsText (p .rows)) (rowText row));
         most = omega arith;
@@ -73,7 +73,7 @@ module _ {table text₀ : List ℕ} {at i : ℕ} {text : List ℕ} (p : Done tab
             ∙ rw (text-snoc (p .rows) row, n);
       }
 
-  pub done-no : (row : Row) → i < countTerms table → RowOf (termAt table i) row → goodRow row ≡ false → FirstUnspelled table (i + 1)
+  pub done-no : (row : Row) → i < countTerms 38 table → RowOf (termAt 38 table i) row → goodRow row ≡ false → FirstUnspelled table (i + 1)
   done-no row l w bad =
       record {
         k = i;
@@ -84,9 +84,9 @@ module _ {table text₀ : List ℕ} {at i : ℕ} {text : List ℕ} (p : Done tab
         counted = refl;
       }
 
-  pub done-all : countTerms table ≤ 64 → countTerms table ≤ i → Typed table text₀ at text
+  pub done-all : countTerms 38 table ≤ 64 → countTerms 38 table ≤ i → Typed table text₀ at text
   done-all few l =
-      let all : i ≡ countTerms table = omega (arith, p .most) in
+      let all : i ≡ countTerms 38 table = omega (arith, p .most) in
       record {
         rows = p .rows;
         spelling = subst (λ k. Spelling table k (p .rows)) all (p .spelling);

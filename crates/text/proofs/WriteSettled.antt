@@ -29,7 +29,7 @@ module _ {answer : Table} where
 
 module _ (table before after : List ℕ) where
   -- 1, where the table's length is none
-  pub write-1 : (r : WriteAnswer) → WriteSays table before after r → tableAnswer table ≡ Length → (r ≡ WrongLength) × (after ≡ before)
+  pub write-1 : (r : WriteAnswer) → WriteSays table before after r → tableAnswer 38 table ≡ Length → (r ≡ WrongLength) × (after ≡ before)
   write-1 (Written n) s h = absurd (sound-length (s .0) h)
   write-1 WrongLength s h = (refl, s .1)
   write-1 (BrokenTerm place) s h = absurd (length-broken h (s .0))
@@ -37,7 +37,7 @@ module _ (table before after : List ℕ) where
   write-1 TooLong s h = absurd (sound-length (s .0) h)
 
   -- 2 with its place, where a term breaks a rule
-  pub write-2 : (r : WriteAnswer) → WriteSays table before after r → (place : ℕ) → tableAnswer table ≡ Broken place → (r ≡ BrokenTerm place) × (after ≡ before)
+  pub write-2 : (r : WriteAnswer) → WriteSays table before after r → (place : ℕ) → tableAnswer 38 table ≡ Broken place → (r ≡ BrokenTerm place) × (after ≡ before)
   write-2 (Written n) s place h = absurd (sound-broken (s .0) h)
   write-2 WrongLength s place h = absurd (length-broken (s .0) h)
   write-2 (BrokenTerm other) s place h = let e = s .0 in let same : other ≡ place = cc in (ap BrokenTerm same, s .1)
@@ -53,7 +53,7 @@ module _ (table before after : List ℕ) where
   write-17 TooLong s place h q = absurd (spelling-not-unspelled (s .1 .spelling) q (q .within))
 
   -- 18, where rows say all terms of a sound table and their text is longer than the buffer
-  pub write-18 : (r : WriteAnswer) → WriteSays table before after r → (rows : List Row) → SoundTable table → Spelling table (countTerms table) rows
+  pub write-18 : (r : WriteAnswer) → WriteSays table before after r → (rows : List Row) → SoundTable table → Spelling table (countTerms 38 table) rows
       → length before < length (rowsText rows) → (r ≡ TooLong) × (after ≡ before)
   write-18 (Written n) s rows h q l = absurd (omega (arith, s .1 .front .room, ap (λ rs. length (rowsText rs)) (spelling-one (s .1 .spelling) q)))
   write-18 WrongLength s rows h q l = absurd (sound-length h (s .0))
@@ -62,7 +62,7 @@ module _ (table before after : List ℕ) where
   write-18 TooLong s rows h q l = (refl, s .2)
 
   -- 0, where it is not
-  pub write-0 : (r : WriteAnswer) → WriteSays table before after r → (rows : List Row) → SoundTable table → Spelling table (countTerms table) rows
+  pub write-0 : (r : WriteAnswer) → WriteSays table before after r → (rows : List Row) → SoundTable table → Spelling table (countTerms 38 table) rows
       → length (rowsText rows) ≤ length before → (r ≡ Written (length (rowsText rows))) × (after ≡ rowsText rows ++ drop (length (rowsText rows)) before)
   write-0 (Written n) s rows h q l =
       let same = spelling-one (s .1 .spelling) q in

@@ -5,7 +5,7 @@ use mathlib.Core.Path.{_≡_}
 use mathlib.Core.List.{List, [], _∷_, _++_}
 use lib.ListN.{length}
 use Rattle.term.specs.declared.Term.{Term}
-use Rattle.term.specs.Pack.{packTable}
+use Rattle.term.specs.Tables.{packTable}
 use Rattle.row.specs.declared.Row.{Row}
 use Rattle.row.specs.Row.{Good, rowText, termOf}
 use Rattle.row.specs.Standing.{NoRow}
@@ -25,9 +25,9 @@ unfoldable pub termsOf : List Row → List Term
 termsOf [] = []
 termsOf (row ∷ rows) = termOf row ∷ termsOf rows
 
--- those terms packed
+-- those terms packed, in nine bytes each
 unfoldable pub packed : List Row → List ℕ
-packed rows = packTable (termsOf rows)
+packed rows = packTable 38 (termsOf rows)
 
 -- the grammar: the text is a table of these rows
 pub record Spells (text : List ℕ) (rows : List Row) : Type 0 where

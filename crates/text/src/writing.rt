@@ -20,11 +20,11 @@ fn spell_terms(table: &[u8], text: &mut [u8; 1664]) -> Spelled
     requires { ⌜ (length (now table) ≤ 576) × (length (now text) ≡ 1664) ⌝ }
     ensures { λ r. ⌜ SpellsOut (now (table .entry)) (now (text .entry)) (now (text .exit)) r ⌝ }
 {
-    let count = term::count_terms(table);
+    let count = term::count_terms(38, table);
     let mut at: usize = 0;
     let mut i: usize = 0;
     while i < count {
-        let row = row::row_of(term::term_at(table, i));
+        let row = row::row_of(term::term_at(38, table, i));
         if !row::good(row) {
             return Spelled::Place(i + 1);
         }
@@ -40,7 +40,7 @@ pub fn write_text(table: &[u8], out: &mut [u8]) -> WriteAnswer
     ensures { λ r. ⌜ WriteSays (now (table .entry)) (now (out .entry)) (now (out .exit)) r ⌝ }
     ensures { λ _. ⌜ now (table .exit) ≡ now (table .entry) ⌝ }
 {
-    let checked = term::check_table(table);
+    let checked = term::check_table(38, table);
     match checked {
         Table::Length => WriteAnswer::WrongLength,
         Table::Broken(place) => WriteAnswer::BrokenTerm(place),
@@ -50,7 +50,7 @@ pub fn write_text(table: &[u8], out: &mut [u8]) -> WriteAnswer
 
 // The text of a sound table.
 fn deliver_text(table: &[u8], out: &mut [u8]) -> WriteAnswer
-    requires { ⌜ tableAnswer (now table) ≡ Sound (countTerms (now table)) ⌝ }
+    requires { ⌜ tableAnswer 38 (now table) ≡ Sound (countTerms 38 (now table)) ⌝ }
     ensures { λ r. ⌜ WriteSays (now (table .entry)) (now (out .entry)) (now (out .exit)) r ⌝ }
 {
     let mut text = [0u8; 1664];

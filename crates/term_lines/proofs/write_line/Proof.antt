@@ -1,7 +1,8 @@
 -- `term_lines::write_line` is safe: a sound table has as many terms as the check says. Assumes nothing.
 use borrow.Author.Needs.{needs}
-use native.Mathlib.Omega.{arith}
+use native.Mathlib.Nat.{le-of-eq}
 use mathlib.Core.Path.{sym, _∙_}
+use Rattle.term.proofs.Rules.{whole-widest}
 use Rattle.term.proofs.Answers.{answer-sound, sound-whole}
 use Rattle.term_lines.proofs.write_line.Statement.{statement}
 use Rattle.term_lines.proofs.write_line.Tie as tie
@@ -22,10 +23,9 @@ write-terms-requires : tie.Need-write-terms-requires
 write-terms-requires c κs =
     let arm = c .before .before .before .answer .given in
     let checked = c .before .before .before .before .before in
-    let table = checked .before .before .args .table .now in
-    let sound = answer-sound table (arm .0 .0) (sym (checked .check-table .ensures .0) ∙ arm .1) in
-    let whole = sound-whole table (sound .0) in
-    (omega arith, whole .most)
+    let a = checked .before .before .args in
+    let sound = answer-sound (a .kind) (a .table .now) (arm .0 .0) (sym (checked .check-table .ensures .0) ∙ arm .1) in
+    (le-of-eq (sound .1), whole-widest (sound-whole (a .kind) (a .table .now) (sound .0)))
 
 enum-told : tie.Need-enum-told
 enum-told c = search needs

@@ -1,20 +1,25 @@
 -- `term_lines::write_terms` is safe and ends: each place below the count is one of the table. Assumes nothing.
 use borrow.Author.Needs.{needs}
 use Prim.Native.Nat.{_-_}
+use native.Mathlib.Omega.{arith}
+use Rattle.term.proofs.Rules.{within-bytes}
 use Rattle.term_lines.proofs.write_terms.Statement.{statement}
 use Rattle.term_lines.proofs.write_terms.Tie as tie
 
 abbrev Inv-loop : tie.InvT-loop
-Inv-loop table count k₀ k = Unit {0}
+Inv-loop kind table count k₀ k = Unit {0}
 
 abbrev μ-loop : tie.MeasureT-loop
-μ-loop table count k₀ k = count - k
+μ-loop kind table count k₀ k = count - k
 
 loop-holds : tie.Need-loop-holds Inv-loop μ-loop
 loop-holds c = tt
 
 term-at-requires : tie.Need-term-at-requires Inv-loop μ-loop
-term-at-requires c κs = search needs
+term-at-requires c κs =
+    let l = c .before in
+    let a = l .before .before in
+    (within-bytes (a .args .kind) _ (l .loop .k) (omega arith), a .pre .1)
 
 write-term-requires : tie.Need-write-term-requires Inv-loop μ-loop
 write-term-requires c κs = search needs

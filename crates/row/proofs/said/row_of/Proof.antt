@@ -16,8 +16,8 @@ exact-requires c κs = omega (arith, c .scaled .ensures, ten-pos (c .before .pow
 
 returns : tie.Need-returns
 returns c =
-    let a = c .before .before .before .args in
-    row-of-term (a .term) _ _ _ (c .before .before .power-of .ensures) (c .before .scaled .ensures) (c .exact .ensures)
+    let a = c .before .before .before in
+    row-of-term (a .args .term) _ _ _ (a .pre) (c .before .before .power-of .ensures) (c .before .scaled .ensures) (c .exact .ensures)
 
 pub row-of-spec : {M : Type 1} → statement M
 row-of-spec = tie.close (tie.spec power-of-requires scaled-requires exact-requires returns)

@@ -3,6 +3,7 @@ use Prim.Native.Nat.{ℕ}
 use mathlib.Core.Path.{refl, sym, subst, _∙_}
 use borrow.Author.Needs.{needs}
 use lib.ListN.{length-replicate}
+use Rattle.kind.specs.Kind.{byKind}
 use Rattle.term.proofs.Answers.{answer-sound, sound-whole}
 use Rattle.text.specs.Writes.{SpellsOut}
 use Rattle.text.proofs.Delivered.{told-text, typed-kept, typed-fits, typed-delivered, typed-no-room}
@@ -10,7 +11,8 @@ use Rattle.text.proofs.writing.deliver_text.Statement.{statement}
 use Rattle.text.proofs.writing.deliver_text.Tie as tie
 
 spell-terms-requires : tie.Need-spell-terms-requires
-spell-terms-requires c κs = (sound-whole _ (answer-sound _ _ (c .before .before .before .pre) .0) .most, refl)
+unfolding byKind
+spell-terms-requires c κs = (sound-whole 38 _ (answer-sound 38 _ _ (c .before .before .before .pre) .0) .most, refl)
 
 enum-known-spelled : tie.Need-enum-known-spelled
 enum-known-spelled c = search needs

@@ -5,7 +5,9 @@ use native.Mathlib.Omega.{arith}
 use mathlib.Core.Path.{sym, subst, _∙_}
 use borrow.Author.Needs.{needs}
 use borrow.Author.Tests.{not-true, not-false}
+use Rattle.kind.specs.Kind.{byKind}
 use Rattle.lent.specs.Put.{Put}
+use Rattle.term.proofs.Rules.{termAt-plain}
 use Rattle.row.specs.Saying.{RowOf}
 use Rattle.row.proofs.Reading.{test-good, put-front-length, put-front-take}
 use Rattle.text.proofs.Terms.{Done, done-none, done-more, done-no, done-all}
@@ -25,10 +27,11 @@ loop-holds : tie.Need-loop-holds Inv-loop μ-loop
 loop-holds c = done-none _ _ (c .before .before .pre .1)
 
 term-at-requires : tie.Need-term-at-requires Inv-loop μ-loop
+unfolding byKind
 term-at-requires c κs = omega (arith, c .before .before .count-terms .ensures)
 
 row-of-requires : tie.Need-row-of-requires Inv-loop μ-loop
-row-of-requires c κs = search needs
+row-of-requires c κs = rw (c .term-at .ensures .0) (termAt-plain 38 (λ e. omega arith) _ _ .factor-plain)
 
 good-requires : tie.Need-good-requires Inv-loop μ-loop
 good-requires c κs = search needs
@@ -37,6 +40,7 @@ add-t12 : tie.Need-add-t12 Inv-loop μ-loop
 add-t12 c = search needs
 
 returns : tie.Need-returns Inv-loop μ-loop
+unfolding byKind
 returns c =
     let l = c .before .before .before .before .before in
     let r = subst (λ t. RowOf t (c .before .before .row-of .result)) (c .before .before .before .term-at .ensures .0) (c .before .before .row-of .ensures) in
@@ -49,6 +53,7 @@ slice-aggregate-put-bytes : tie.Need-slice-aggregate-put-bytes Inv-loop μ-loop
 slice-aggregate-put-bytes c = sym (put-front-length (c .before .before .put-row .ensures .0))
 
 put-bytes-requires : tie.Need-put-bytes-requires Inv-loop μ-loop
+unfolding byKind
 put-bytes-requires c κs =
     let l = c .before .before .before .before .before .before .before .before .before in
     let w = c .before .before .put-row .ensures in
@@ -61,6 +66,7 @@ loop-less : tie.Need-loop-less Inv-loop μ-loop
 loop-less c = search needs
 
 loop-again : tie.Need-loop-again Inv-loop μ-loop
+unfolding byKind
 loop-again c =
     let l = c .before .before .before .before .before .before .before .before .before .before in
     let w = c .before .before .before .put-row .ensures in
@@ -73,6 +79,7 @@ loop-again c =
     done-more (l .loop .inv) _ _ _ (omega (arith, l .before .before .before .pre .0)) (omega (arith, l .before .count-terms .ensures)) g (r .says g) (e .reached) (e .bytes)
 
 returns-2 : tie.Need-returns-2 Inv-loop μ-loop
+unfolding byKind
 returns-2 c =
     let l = c .before in
     done-all (l .loop .inv) (omega (arith, l .before .before .before .pre .0)) (omega (arith, l .before .count-terms .ensures))

@@ -1,5 +1,5 @@
 -- `text::writing::write_text` meets its contract. Assumes nothing.
-use mathlib.Core.Path.{sym, _∙_}
+use mathlib.Core.Path.{refl, sym, _∙_}
 use borrow.Author.Needs.{needs}
 use Rattle.term.proofs.Answers.{sound-answer, answer-sound}
 use Rattle.text.proofs.writing.write_text.Statement.{statement}
@@ -20,13 +20,13 @@ enum-told-2 c = search needs
 deliver-text-requires : tie.Need-deliver-text-requires
 deliver-text-requires c κs =
     let e = sym (c .before .before .before .check-table .ensures .0) ∙ c .before .enum-told2 .given .1 in
-    sound-answer _ (answer-sound _ _ e .0)
+    sound-answer 38 _ (answer-sound 38 _ _ e .0)
 
 returns : tie.Need-returns
-returns c = search needs
+returns c = ((sym (c .before .before .check-table .ensures .0) ∙ c .enum-told .given .1, refl), refl)
 
 returns-2 : tie.Need-returns-2
-returns-2 c = search needs
+returns-2 c = ((sym (c .before .before .before .check-table .ensures .0) ∙ c .before .checked .given .1, refl), refl)
 
 same-length : tie.Need-same-length
 same-length c = search needs
