@@ -74,7 +74,7 @@ def packed(plugs):
 def answers(width, table, plugs):
     """The second program's lines."""
     with open(os.path.join(HERE, table), "rb") as file:
-        return "".join(line + "\n" for line in lines(width, file.read(), packed(plugs)))
+        return "".join(line + "\n" for line in lines(width, 38, file.read(), packed(plugs)))
 
 
 FILES = ((32, "proposals.bin", "lines.txt", "terms.bin", plugs),

@@ -5,9 +5,10 @@ from functools import lru_cache
 from .bracket import add_last, whole
 
 LAST = 256
+GREATEST = (128, 1, 0)  # x, as a triple of exact.py
 
 
-@lru_cache(maxsize=64)  # terms of one c share their exponential
+@lru_cache(maxsize=64)  # terms of one c and one factor share their exponential
 def exponential_of_minus(x):
     term = total = whole(x.bits, 1)
     for k in range(1, LAST + 1):

@@ -28,4 +28,4 @@ def test_densities_of_eight_digits():
     """What docs/TOLERANCES.md says of them: these tolerances are enough at 53 bits."""
     for i in range(41):
         proposal = propose.found(0.01 + 3.5 * i) + (20.0, 0.03)
-        assert pair_check(53, table5(), *map(f64.word, proposal)).number == 0, proposal
+        assert pair_check(53, 38, table5(), *map(f64.word, proposal)).number == 0, proposal
