@@ -54,8 +54,8 @@ def test_random_tables(width):
 def test_tables_of_the_longer_record(width):
     """Factors of all sizes, and exponentials that are cut off."""
     random = randoms.Random(43)
-    for densest in (644, 2576, 2576):
-        terms = terms_of(TWELVE, samples.sound_table(random, 5, kind=TWELVE))
+    for densest in (644, 2576):
+        terms = terms_of(TWELVE, samples.sound_table(random, 3, kind=TWELVE))
         check_pair(width, terms, random.uniform(252, 1273), random.uniform(densest / 2, densest),
                    2 ** random.uniform(-10, 8))
     terms = [Term(1, 1023, 1, 0, 0, 10 ** 15), Term(6, 200, 2, 3, 1, 10 ** 14), Term(15, 1, 31, 63, 0, 1)]
