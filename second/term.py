@@ -47,15 +47,14 @@ def unpacked(kind, piece):
 
 
 def packed(kind, term):
-    """The bytes of a term whose fields fit their widths, and whose factor is the old one where there is no field."""
+    """The bytes of a term whose fields fit their widths; those that have no field are as a nine-byte term has them."""
+    assert kind.number == 58 or (term.factor, term.spare) == (old_factor(term.c), 0)
     number = 0
     for name, width in kind.fields:
         field = getattr(term, name)
         assert 0 <= field < 1 << width
         number = number << width | field
-    piece = number.to_bytes(kind.size, "big")
-    assert unpacked(kind, piece) == term
-    return piece
+    return number.to_bytes(kind.size, "big")
 
 
 def breaks_a_rule(kind, term):

@@ -149,10 +149,10 @@ def gentle_term(random, kind=NINE):
 
 
 def sound_table(random, most=MOST, make=term, kind=NINE):
-    """A table of random terms.  One of the longer record mostly has few different exponentials, as water's has: each
-    one takes a while."""
+    """A table of random terms.  One of the longer record mostly has few different exponentials, as Table 4 has: each one
+    takes a while."""
     terms = [make(random, kind) for _ in range(random.randint(1, most))]
-    if kind == TWELVE and random.randrange(8):
+    if kind == TWELVE and (len(terms) > 8 or random.randrange(8)):
         few = [exponents(random, kind) for _ in range(random.choice([1, 2, 3, 4]))]
         terms = [term._replace(c=c, factor=factor) for term, (c, factor) in
                  zip(terms, random.choices(few, k=len(terms)))]

@@ -17,7 +17,7 @@ from second.term import Term, packed, terms_of
 from second.tests import samples
 from second.tests.samples import (INFINITY, NAN, NEGATIVE, WRONG_KINDS, WRONG_WIDTHS, above, at_each_kind,
                                   at_each_width, table4, table5, under)
-from second.tests.test_verdicts import AT_ZERO, BELOW_ZERO, CEILINGS, EASY, NONE
+from second.tests.test_verdicts import AT_ZERO, BELOW_ZERO, CEILINGS, EASY, NONE, Ceiling
 from second.verdict import WIDTHS, Answer, density_check, pair_check, state_sheet
 
 W = f64.word
@@ -27,21 +27,9 @@ EASIER = lengthen(EASY, 12).output  # small and positive
 RHO = W(1.0)
 
 
-def one_term(magnitude, negative=0):
-    return packed(TWELVE, Term(0, 0, 1, 0, negative, magnitude))
-
-
-# The ceiling of 25 x 10^9, met exactly at each width: T, density, the magnitude of a term c 0, d 1, t 0 with which the
-# upper end of pressure is the ceiling, and what it is with the next magnitude.
-HIGH = 25 * 10 ** 9
-CEILINGS_58 = {32: (W(301.0), W(2576.0), 86077087558805942, HIGH + 16),
-               53: (W(301.0), W(2576.0), 86077087589515581, HIGH + Fraction(1, 2 ** 18))}
-
-
-def found_ceiling(width, T, rho, magnitude):
-    """The upper end of pressure with this magnitude."""
-    terms = terms_of(TWELVE, one_term(magnitude))
-    return fraction(exact(pressure(phase(width, terms, f64.exact(T), f64.exact(rho))).upper))
+HIGH = 25 * 10 ** 9  # the ceiling of the longer record
+CEILINGS_58 = {32: Ceiling(W(301.0), W(2576.0), 86077087558805942, HIGH + 16, TWELVE),
+               53: Ceiling(W(301.0), W(2576.0), 86077087589515581, HIGH + Fraction(1, 2 ** 18), TWELVE)}
 
 
 def numbers(width, kind, table, T, rho, target=0, tolerance=WIDE):
@@ -149,10 +137,11 @@ def test_term_line(width):
 
 @at_each_width
 def test_ceiling_line(width):
-    T, rho, magnitude, next_end = CEILINGS_58[width]
-    assert found_ceiling(width, T, rho, magnitude) == HIGH
-    assert found_ceiling(width, T, rho, magnitude + 1) == next_end > HIGH
-    at, over = one_term(magnitude), one_term(magnitude + 1)
+    T, rho, _, next_end, _ = CEILINGS_58[width]
+    at, over = CEILINGS_58[width].tables()
+    for table, end in ((at, HIGH), (over, next_end)):
+        reading = pressure(phase(width, terms_of(TWELVE, table), f64.exact(T), f64.exact(rho)))
+        assert fraction(exact(reading.upper)) == end
     answer = state_sheet(width, 58, at, T, rho)
     assert answer.number == 0 and answer.ends[1] == W(25e9)
     answer = density_check(width, 58, at, T, rho, W(25e9), WIDE)
@@ -193,8 +182,8 @@ def test_tolerance_and_sides(width, kind):
 @at_each_width
 def test_order_of_the_numbers(width):
     """Everything is bad at first; mended one by one, the numbers come in order."""
-    T, rho, magnitude, _ = CEILINGS_58[width]
-    broken, over, pulled = bytes(12), one_term(magnitude + 1), lengthen(AT_ZERO[width][0], 12).output
+    T, rho, over = CEILINGS_58[width].T, CEILINGS_58[width].rho, CEILINGS_58[width].tables()[1]
+    broken, pulled = bytes(12), lengthen(AT_ZERO[width][0], 12).output
     bad = dict(width=31, kind=39, table=b"", T=NAN, liquid=NAN, vapour=NAN, pressure_tolerance=NAN, gibbs_tolerance=NAN)
     for mend, number in ((dict(), 19), (dict(width=width), 29), (dict(kind=58), 1), (dict(table=broken), 2),
                          (dict(table=over), 3), (dict(T=T), 4), (dict(liquid=rho), 4), (dict(vapour=W(322.0)), 6),

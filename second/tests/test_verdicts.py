@@ -9,7 +9,7 @@ from second import f64
 from second.bench import NO_WIDTH, line, lines, width_of
 from second.equation import gibbs_gap_of, phase, pressure
 from second.exact import fraction
-from second.kind import NINE
+from second.kind import NINE, Kind
 from second.logarithm import logarithm_of_ratio
 from second.panel import chosen
 from second.sheet import exact
@@ -27,16 +27,17 @@ ANSWERED = (0, 9, 10, 11)  # the equation was worked out
 
 
 class Ceiling(NamedTuple):
-    """The ceiling, met exactly at one width: a term c 0, d 1, t 0 at this T and density.  With the magnitude the upper
-    end of pressure is 10^9; with the next magnitude it is the next sheet number."""
+    """A kind's ceiling, met exactly at one width: a term c 0, d 1, t 0 at this T and density.  With the magnitude the
+    upper end of pressure is the ceiling; with the next magnitude it is the next sheet number."""
     T: int
     rho: int
     magnitude: int
     next: Fraction
+    kind: Kind = NINE
 
     def tables(self):
         """At the ceiling, and over it."""
-        return [packed(NINE, term38(0, 1, 0, 0, magnitude)) for magnitude in (self.magnitude, self.magnitude + 1)]
+        return [packed(self.kind, term38(0, 1, 0, 0, magnitude)) for magnitude in (self.magnitude, self.magnitude + 1)]
 
 
 CEILINGS = {32: Ceiling(W(1250.0), W(1288.0), 864538028836250, 10 ** 9 + Fraction(1, 4)),
@@ -154,7 +155,7 @@ def test_term_line(width):
 
 @at_each_width
 def test_ceiling_line(width):
-    T, rho, _, next_end = CEILINGS[width]
+    T, rho, _, next_end, _ = CEILINGS[width]
     at, over = CEILINGS[width].tables()
     for table, end in ((at, 10 ** 9), (over, next_end)):
         reading = pressure(phase(width, terms_of(NINE, table), f64.exact(T), f64.exact(rho)))
