@@ -1,32 +1,34 @@
 /* A small panel on the water bench: reads a table and proposals, and says of each plug in plain words what the pair
  * check answers.
  *
- *   panel TERMS PROPOSALS [WIDTH]
+ *   panel TERMS PROPOSALS [WIDTH [KIND]]
  *
  * Built by 'rt staticlib panel' and, on x86-64, 'gcc -Iinclude -o panel examples/panel.c target/staticlib/libpanel.a';
  * 'tests/c examples/panel.c TERMS PROPOSALS' builds and runs it on either kind of machine.
  *
  * TERMS is a file of packed terms or, where its name ends in .txt, a table typed as text; PROPOSALS has five doubles for
  * each plug, most significant byte first: temperature, liquid, vapour, pressure tolerance, Gibbs tolerance, as the bench
- * program takes them.  WIDTH is 32, which stands where it is missing, or 53; any other gets the answer that the library
- * has for it.  Ends with status 1 where a file can't be read or a typed table is refused. */
+ * program takes them.  WIDTH is 32, which stands where it is missing, or 53; KIND is 38, which stands where it is missing,
+ * or 58, for twelve-byte terms.  Any other gets the answer that the library has for it.  A table typed as text is
+ * lengthened for 58.  Ends with status 1 where a file can't be read or a typed table is refused. */
 #include <stdio.h>
 #include <string.h>
 
 #include "waterbench.h"
 
-enum { LONGEST_TABLE = 576, LONGEST_TEXT = 1664, NUMBERS = 5, BYTES = 8 * NUMBERS };
+enum { LONGEST_TABLE = 768, LONGEST_TEXT = 1664, NUMBERS = 5, BYTES = 8 * NUMBERS };
 
 /* By the pair check's refusals, which have no number but these. */
 static const char *const reasons[] = {
     [WB_WIDTH] = "the width is neither 32 nor 53",
-    [WB_TABLE_LENGTH] = "the table of terms has a length that no table has",
+    [WB_KIND] = "the kind is neither 38 nor 58",
+    [WB_TABLE_LENGTH] = "the table of terms has a length that no table of its kind has",
     [WB_BROKEN_TERM] = "a term of the table breaks a rule",
     [WB_TEMPERATURE] = "the temperature is not between 273.16 and 1273 K",
-    [WB_DENSITY] = "a density is not between 1/1024 and 1288 kg/m3",
+    [WB_DENSITY] = "a density is not between 1/1024 and 1288 kg/m3, or 2576 for kind 58",
     [WB_TOLERANCE] = "a tolerance is not between 0 and 10^6",
     [WB_SIDES] = "the liquid is not above 322 kg/m3, or the vapour not below",
-    [WB_CEILING] = "a pressure is above 10^9 Pa",
+    [WB_CEILING] = "a pressure is above 10^9 Pa, or 25 * 10^9 for kind 58",
     [WB_VAPOUR_PRESSURE] = "the vapour does not push",
     [WB_PRESSURE_GAP] = "the two pressures are too far apart",
     [WB_GIBBS_GAP] = "the two Gibbs energies are too far apart",
@@ -47,23 +49,28 @@ static double read_double(const uint8_t *bytes)
 
 /* What every plug is held to. */
 struct bench {
-    uint64_t width;
+    uint64_t width, kind;
     uint8_t table[LONGEST_TABLE + 1]; /* one byte more, so that a longer file is seen to be longer */
     size_t length;
 };
 
-/* The packed terms of a typed table; 0 where it is refused. */
+/* The packed terms of a typed table, lengthened where the kind is 58; 0 where it is refused. */
 static int read_typed(struct bench *b, FILE *terms)
 {
     uint8_t text[LONGEST_TEXT + 1]; /* one byte more, as for a table */
+    uint8_t nine[LONGEST_TABLE];
     size_t length = fread(text, 1, sizeof text, terms);
 
-    if (wb_read_text(text, length, b->table, LONGEST_TABLE, WB_NUMBER) != WB_ACCEPTED) {
-        uint64_t line = wb_read_text(text, length, b->table, LONGEST_TABLE, WB_PLACE);
+    if (wb_read_text(text, length, nine, sizeof nine, WB_NUMBER) != WB_ACCEPTED) {
+        uint64_t line = wb_read_text(text, length, nine, sizeof nine, WB_PLACE);
         fprintf(stderr, "panel: line %lu is no row of a table\n", (unsigned long)line);
         return 0;
     }
-    b->length = wb_read_text(text, length, b->table, LONGEST_TABLE, WB_WRITTEN);
+    b->length = wb_read_text(text, length, nine, sizeof nine, WB_WRITTEN);
+    if (b->kind == WB_TWELVE_BYTES)
+        b->length = wb_lengthen(nine, b->length, b->table, LONGEST_TABLE, WB_WRITTEN);
+    else
+        memcpy(b->table, nine, b->length);
     return 1;
 }
 
@@ -75,8 +82,8 @@ static int is_text(const char *name)
 
 static uint64_t ask(const struct bench *b, struct plug p, uint64_t choice)
 {
-    return wb_pair(b->width, b->table, b->length, p.temperature, p.liquid, p.vapour, p.pressure_tolerance,
-                   p.gibbs_tolerance, choice);
+    return wb_pair(b->width, b->kind, b->table, b->length, p.temperature, p.liquid, p.vapour,
+                   p.pressure_tolerance, p.gibbs_tolerance, choice);
 }
 
 /* Exactly the digits, as the bench program takes them; 0, which is no width, for any other word. */
@@ -85,6 +92,14 @@ static uint64_t width_of(const char *word)
     if (strcmp(word, "32") == 0)
         return WB_COARSE;
     return strcmp(word, "53") == 0 ? WB_FINE : 0;
+}
+
+/* The same of the kind. */
+static uint64_t kind_of(const char *word)
+{
+    if (strcmp(word, "38") == 0)
+        return WB_NINE_BYTES;
+    return strcmp(word, "58") == 0 ? WB_TWELVE_BYTES : 0;
 }
 
 /* What the answer's ends are, for the numbers that have ends. */
@@ -130,14 +145,16 @@ int main(int count, char **words)
     struct bench b;
     uint8_t bytes[BYTES];
     size_t got;
-    FILE *terms = count == 3 || count == 4 ? fopen(words[1], "rb") : NULL;
-    FILE *proposals = count == 3 || count == 4 ? fopen(words[2], "rb") : NULL;
+    int files = count >= 3 && count <= 5;
+    FILE *terms = files ? fopen(words[1], "rb") : NULL;
+    FILE *proposals = files ? fopen(words[2], "rb") : NULL;
 
     if (terms == NULL || proposals == NULL) {
-        fprintf(stderr, "usage: panel TERMS PROPOSALS [WIDTH], two files that can be read, and 32 or 53\n");
+        fprintf(stderr, "usage: panel TERMS PROPOSALS [WIDTH [KIND]], two files that can be read, 32 or 53, 38 or 58\n");
         return 1;
     }
-    b.width = count == 4 ? width_of(words[3]) : WB_COARSE;
+    b.width = count > 3 ? width_of(words[3]) : WB_COARSE;
+    b.kind = count > 4 ? kind_of(words[4]) : WB_NINE_BYTES;
     if (!is_text(words[1]))
         b.length = fread(b.table, 1, sizeof b.table, terms);
     else if (!read_typed(&b, terms))

@@ -1,6 +1,6 @@
 """Runs the second program as the bench program: terms.bin from the current directory, proposals on standard input.
 
-`python3 second [WIDTH] < proposals`, with this folder's path, from any directory.  Assumes nothing.
+`python3 second [WIDTH [KIND]] < proposals`, with this folder's path, from any directory.  Assumes nothing.
 """
 
 import os
@@ -8,7 +8,7 @@ import sys
 
 sys.path.insert(0, os.path.dirname(os.path.dirname(os.path.abspath(__file__))))
 
-from second.bench import lines, width_of  # noqa: E402
+from second.bench import kind_of, lines, width_of  # noqa: E402
 
 
 def main():
@@ -17,7 +17,8 @@ def main():
             table = file.read()
     except FileNotFoundError:  # counts as empty
         table = b""
-    for text in lines(width_of(sys.argv[1:]), table, sys.stdin.buffer.read()):
+    words = sys.argv[1:]
+    for text in lines(width_of(words), kind_of(words), table, sys.stdin.buffer.read()):
         print(text)
 
 

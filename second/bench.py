@@ -1,4 +1,4 @@
-"""The bench program's lines (01, "The bench program"; 02 d).  Assumes the table and the proposals as bytes."""
+"""The bench program's lines (01, "The bench program"; 02 d and h).  Assumes the table and the proposals as bytes."""
 
 import struct
 
@@ -6,7 +6,8 @@ from .verdict import pair_check, refused
 
 SIZE = 40  # T, liquid, vapour, pressure tolerance, Gibbs tolerance
 WIDTHS = {"32": 32, "53": 53}  # by the word that names each
-NO_WIDTH = 0
+KINDS = {"38": 38, "58": 58}
+NO_WIDTH = NO_KIND = 0
 
 
 def line(count, answer):
@@ -19,11 +20,16 @@ def width_of(words):
     return WIDTHS.get(words[0], NO_WIDTH) if words else 32
 
 
-def lines(width, table, proposals):
-    """One line a proposal; one that is cut short is the last, whatever the width."""
+def kind_of(words):
+    """The kind that they name, by the second: 38 where there is none."""
+    return KINDS.get(words[1], NO_KIND) if len(words) > 1 else 38
+
+
+def lines(width, kind, table, proposals):
+    """One line a proposal; one that is cut short is the last, whatever the width and the kind."""
     for count, start in enumerate(range(0, len(proposals), SIZE), 1):
         piece = proposals[start:start + SIZE]
         if len(piece) < SIZE:
             yield line(count, refused(12))
         else:
-            yield line(count, pair_check(width, table, *struct.unpack(">5Q", piece)))
+            yield line(count, pair_check(width, kind, table, *struct.unpack(">5Q", piece)))

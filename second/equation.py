@@ -1,15 +1,17 @@
-"""Pressure, stiffness and Gibbs gap as brackets, by the step rules (01, "The equation, step by step").
+"""Pressure, stiffness and Gibbs gap as brackets, by the step rules (01, "The equation, step by step"; 02 h).
 
-T and densities come as exact triples within 01's ranges; assumes a sound table.  Every bracketing and every
-order of sums is 01's.
+T and densities come as exact triples within the documents' ranges; assumes the terms of a sound table, of either kind.
+Every bracketing and every order of sums is the documents'.
 """
 
 from typing import NamedTuple
 
 from .bracket import Bracket, given, whole
-from .exponential import exponential_of_minus
+from .exact import at_most, least
+from .exponential import GREATEST, exponential_of_minus
 from .logarithm import logarithm_of_ratio
-from .term import UNIT
+from .sheet import ZERO, exact
+from .term import HUNDRED, UNIT
 
 CRITICAL_TEMPERATURE = (64714, 100)
 CRITICAL_DENSITY = 322
@@ -36,30 +38,45 @@ def phase(bits, terms, T, rho):
 def sums(terms, delta, tau):
     s0 = s1 = s2 = whole(delta.bits, 0)
     for term in terms:
-        v, w = value(term, delta, tau), weight(term, delta)
+        g = exponent(term, delta)
+        v, w = value(term, g, delta, tau), weight(term, g)
         s0 = s0 + v
         s1 = s1 + v * w
-        s2 = s2 + v * second_weight(term, w, delta)
+        s2 = s2 + v * second_weight(term, g, w)
     return s0, s1, s2
 
 
-def value(term, delta, tau):
+def exponent(term, delta):
+    """02 h's g: the factor, a given value, times delta^c.  It is not used without c."""
+    return given(delta.bits, term.factor, HUNDRED) * delta ** term.c
+
+
+def exponential(g):
+    """E for c of 1 or more.  Where g may be above 128 it is from 0 to the rule's upper end at 128, or at g's lower end
+    if that is smaller."""
+    if at_most(exact(g.upper), GREATEST):
+        return exponential_of_minus(g)
+    p, _, e = least([exact(g.lower), GREATEST])
+    return Bracket(g.bits, ZERO, exponential_of_minus(given(g.bits, p, 1, e)).upper)
+
+
+def value(term, g, delta, tau):
     """01's V.  Without c there is no exponential at all."""
     coefficient = given(delta.bits, term.numerator(), UNIT)
-    factor = whole(delta.bits, 1) if term.c == 0 else exponential_of_minus(delta ** term.c)
+    factor = whole(delta.bits, 1) if term.c == 0 else exponential(g)
     return ((coefficient * delta ** term.d) * tau ** term.t) * factor
 
 
-def weight(term, delta):
+def weight(term, g):
     """01's w."""
-    d = whole(delta.bits, term.d)
-    return d if term.c == 0 else d - (term.c * delta ** term.c)
+    d = whole(g.bits, term.d)
+    return d if term.c == 0 else d - (term.c * g)
 
 
-def second_weight(term, w, delta):
+def second_weight(term, g, w):
     """What V is multiplied with in S2."""
     product = w * (w - 1)
-    return product if term.c == 0 else product - (term.c ** 2 * delta ** term.c)
+    return product if term.c == 0 else product - (term.c ** 2 * g)
 
 
 def pressure(state):

@@ -1,12 +1,13 @@
-"""The equation itself at a level N, on exact fractions (01, "The equation itself").  No sheet number occurs here.
+"""The equation itself at a level N, on exact fractions (01, "The equation itself"; 02 h).  No sheet number occurs here,
+and no exponential is cut off: g may be of any size.
 
-T and densities are Fractions; assumes them above zero and a sound table.
+T and densities are Fractions; assumes them above zero and the terms of a sound table, of either kind.
 """
 
 from fractions import Fraction
 from functools import lru_cache
 
-from .term import UNIT
+from .term import HUNDRED, UNIT
 
 CRITICAL_TEMPERATURE = Fraction("647.14")
 CRITICAL_DENSITY = Fraction(322)
@@ -45,25 +46,31 @@ def logarithm_at(N, liquid, vapour):
 
 @lru_cache(maxsize=256)
 def sums_at(N, terms, T, rho):
-    """S0, S1, S2 without any rounding.  Terms of one c are summed first: the large exponential then enters once."""
+    """S0, S1, S2 without any rounding.  Terms of one c and factor are summed first: the large exponential then enters
+    once."""
     delta, tau = rho / CRITICAL_DENSITY, CRITICAL_TEMPERATURE / T
     sums = [Fraction(0)] * 3
-    for c in sorted({term.c for term in terms}):
+    for c, factor in sorted({(term.c, term.factor) for term in terms}):
         part = [Fraction(0)] * 3
         for term in terms:
-            if term.c == c:
+            if (term.c, term.factor) == (c, factor):
                 part = [s + v for s, v in zip(part, addends(term, delta, tau))]
-        factor = Fraction(1) if c == 0 else exponential_at(N, delta ** c)
-        sums = [s + v * factor for s, v in zip(sums, part)]
+        common = Fraction(1) if c == 0 else exponential_at(N, exponent(c, factor, delta))
+        sums = [s + v * common for s, v in zip(sums, part)]
     return sums
+
+
+def exponent(c, factor, delta):
+    """02 h's g; zero without c, where the factor is none."""
+    return Fraction(factor, HUNDRED) * delta ** c
 
 
 def addends(term, delta, tau):
     """What one term adds to the three sums, its exponential left out."""
     v = Fraction(term.numerator(), UNIT) * delta ** term.d * tau ** term.t
-    g = term.c * delta ** term.c  # zero without c
-    w = term.d - g
-    return v, v * w, v * (w * (w - 1) - term.c * g)
+    g = exponent(term.c, term.factor, delta)
+    w = term.d - term.c * g
+    return v, v * w, v * (w * (w - 1) - term.c ** 2 * g)
 
 
 def pressure_at(N, terms, T, rho):

@@ -1,14 +1,13 @@
 """Text tables: rows to packed terms and back, and what the program `tables` writes (02 c).  Assumes nothing of the
-bytes.
+bytes.  Packed terms are nine-byte ones here.
 
 A row is c, d, t and the coefficient, one space between: `3 5 15 -0.1216139400e-1`.  A text is 1 to 64 rows, each ended
 by a line feed.  `room` is the length of the lent buffer.
 """
 
-from typing import NamedTuple
-
-from .term import LARGEST_T, MOST, SIZE, Term, packed, terms_of
-from .verdict import table_refusal
+from .kind import MOST, NINE
+from .output import fitted, refused
+from .term import table_of, table_refusal, term38, terms_of
 
 DIGITS = 10
 LONGEST_ROW = len(b"3 15 24 -0.9999999999e-6\n")
@@ -21,22 +20,7 @@ def spellings(numbers):
 
 
 # What a row may say: the numbers that the packed term's rules allow, and the powers.
-C, D, T, POWERS = map(spellings, (range(4), range(1, 16), range(LARGEST_T + 1), range(-6, 2)))
-
-
-class Answer(NamedTuple):
-    number: int
-    place: int  # of a term, or the line of a row
-    output: bytes  # what is written at the buffer's front
-
-
-def refused(number, place=0):
-    return Answer(number, place, b"")
-
-
-def fitted(output, room):
-    """The answer once all else is in order: 18 exactly if the output is longer than the lent buffer."""
-    return refused(18) if len(output) > room else Answer(0, 0, output)
+C, D, T, POWERS = map(spellings, (range(4), range(1, 16), range(NINE.largest_t + 1), range(-6, 2)))
 
 
 def scale(power):
@@ -66,7 +50,7 @@ def term_of(line):
     c, d, t, coefficient = C.get(fields[0]), D.get(fields[1]), T.get(fields[2]), coefficient_of(fields[3])
     if None in (c, d, t, coefficient):
         return None
-    return Term(c, d, t, *coefficient)
+    return term38(c, d, t, *coefficient)
 
 
 def read_text(text, room):
@@ -80,7 +64,7 @@ def read_text(text, room):
         terms.append(term)
     if rest or not lines:  # text behind the last line feed, or no text at all
         return refused(16, len(lines) + 1)
-    return fitted(b"".join(map(packed, terms)), room)
+    return fitted(table_of(NINE, terms), room)
 
 
 # writing
@@ -97,21 +81,16 @@ def row_of(term):
 
 def write_text(table, room):
     """The text of packed terms: 1, 2 with the place, 17 with the place of the first term with no spelling, then 18."""
-    early = table_refusal(table)
+    early = table_refusal(NINE, table)
     if early:
         return refused(*early)
-    rows = [row_of(term) for term in terms_of(table)]
+    rows = [row_of(term) for term in terms_of(NINE, table)]
     if None in rows:
         return refused(17, rows.index(None) + 1)
     return fitted(b"".join(rows), room)
 
 
-# the panel and the program
-
-def chosen(answer, choice):
-    """What a call hands back: 0 the number, 1 the place, 2 the bytes written; any other choice is 0."""
-    return {0: answer.number, 1: answer.place, 2: len(answer.output)}.get(choice, 0)
-
+# the program
 
 def reason(number, place):
     if number == 1:
@@ -126,7 +105,7 @@ def reason(number, place):
 def tables(words, stdin):
     """Standard output and standard error of the program with these words; its buffers have room for any table."""
     if words == ["read"]:
-        answer = read_text(stdin, MOST * SIZE)
+        answer = read_text(stdin, MOST * NINE.size)
     elif words == ["write"]:
         answer = write_text(stdin, MOST * LONGEST_ROW)
     else:

@@ -1,7 +1,7 @@
-"""State sheet, density check and pair check, with the table of numbers in order (01, "Inputs" and "Verdicts"; 02 b, d
-and f).
+"""State sheet, density check and pair check, with the table of numbers in order (01, "Inputs" and "Verdicts"; 02 b, d,
+f and h).
 
-Any width, any bytes and any f64s (as their 64 bits) are answered; assumes nothing.
+Any width, any kind, any bytes and any f64s (as their 64 bits) are answered; assumes nothing.
 """
 
 from typing import NamedTuple, Tuple
@@ -10,18 +10,15 @@ from . import f64
 from .bracket import given
 from .equation import gibbs_gap, phase, pressure, stiffness
 from .exact import at_most, below, negated
+from .kind import KINDS
 from .logarithm import logarithm_of_ratio
 from .sheet import exact
-from .term import first_broken, sound_length, terms_of
+from .term import table_refusal, terms_of
 
 WIDTHS = (32, 53)  # counts of bits
-TEMPERATURES = ((273, 1, 0), (1273, 1, 0))  # of the state sheet and the density check
-PAIR_TEMPERATURES = ((27316, 100, 0), (1273, 1, 0))  # from the triple point on
-DENSITIES = ((1, 1, -10), (1288, 1, 0))
-TARGETS = ((0, 1, 0), (10 ** 9, 1, 0))
+PAIR_TEMPERATURES = ((27316, 100, 0), (1273, 1, 0))  # of the pair check, from the triple point on
 TOLERANCES = ((0, 1, 0), (10 ** 6, 1, 0))
 DIVIDE = (322, 1, 0)  # liquid above, vapour below
-CEILING = (10 ** 9, 1, 0)
 
 
 class Answer(NamedTuple):
@@ -49,21 +46,17 @@ def on_their_sides(liquid, vapour):
     return below(DIVIDE, f64.exact(liquid)) and below(f64.exact(vapour), DIVIDE)
 
 
-def table_refusal(table):
-    """Numbers 1 and 2, as (number, place); None for a sound table."""
-    if not sound_length(table):
-        return 1, 0
-    place = first_broken(table)
-    return (2, place) if place else None
+def first_refusal(width, kind, table):
+    """What every call asks first: number 19, then 29, then 1 and 2."""
+    if width not in WIDTHS:
+        return 19, 0
+    if kind not in KINDS:
+        return 29, 0
+    return table_refusal(KINDS[kind], table)
 
 
-def first_refusal(width, table):
-    """What every call asks first: number 19, then 1 and 2."""
-    return table_refusal(table) if width in WIDTHS else (19, 0)
-
-
-def too_high(bracket):
-    return below(CEILING, exact(bracket.upper))
+def too_high(kind, bracket):
+    return below(kind.ceiling, exact(bracket.upper))
 
 
 def gap_passes(gap, tolerance):
@@ -77,34 +70,36 @@ def pushes(bracket):
     return bracket.lower[0] > 0
 
 
-def state_sheet(width, table, T, rho):
-    early = first_refusal(width, table)
+def state_sheet(width, kind, table, T, rho):
+    early = first_refusal(width, kind, table)
     if early:
         return refused(*early, ends=4)
-    if not within(T, TEMPERATURES):
+    kind = KINDS[kind]
+    if not within(T, kind.temperatures):
         return refused(3, ends=4)
-    if not within(rho, DENSITIES):
+    if not within(rho, kind.densities):
         return refused(4, ends=4)
-    state = phase(width, terms_of(table), f64.exact(T), f64.exact(rho))
-    if too_high(pressure(state)):
+    state = phase(width, terms_of(kind, table), f64.exact(T), f64.exact(rho))
+    if too_high(kind, pressure(state)):
         return refused(8, ends=4)
     return with_ends(0, pressure(state), stiffness(state))
 
 
-def density_check(width, table, T, rho, target, tolerance):
-    early = first_refusal(width, table)
+def density_check(width, kind, table, T, rho, target, tolerance):
+    early = first_refusal(width, kind, table)
     if early:
         return refused(*early)
-    if not within(T, TEMPERATURES):
+    kind = KINDS[kind]
+    if not within(T, kind.temperatures):
         return refused(3)
-    if not within(rho, DENSITIES):
+    if not within(rho, kind.densities):
         return refused(4)
-    if not within(target, TARGETS):
+    if not within(target, kind.targets):
         return refused(5)
     if not within(tolerance, TOLERANCES):
         return refused(6)
-    state = phase(width, terms_of(table), f64.exact(T), f64.exact(rho))
-    if too_high(pressure(state)):
+    state = phase(width, terms_of(kind, table), f64.exact(T), f64.exact(rho))
+    if too_high(kind, pressure(state)):
         return refused(8)
     gap = pressure(state) - given(width, *f64.exact(target))
     if not gap_passes(gap, tolerance):
@@ -114,22 +109,23 @@ def density_check(width, table, T, rho, target, tolerance):
     return with_ends(0, pressure(state))
 
 
-def pair_check(width, table, T, liquid, vapour, pressure_tolerance, gibbs_tolerance):
-    early = first_refusal(width, table)
+def pair_check(width, kind, table, T, liquid, vapour, pressure_tolerance, gibbs_tolerance):
+    early = first_refusal(width, kind, table)
     if early:
         return refused(*early)
+    kind = KINDS[kind]
     if not within(T, PAIR_TEMPERATURES):
         return refused(3)
-    if not (within(liquid, DENSITIES) and within(vapour, DENSITIES)):
+    if not (within(liquid, kind.densities) and within(vapour, kind.densities)):
         return refused(4)
     if not (within(pressure_tolerance, TOLERANCES) and within(gibbs_tolerance, TOLERANCES)):
         return refused(6)
     if not on_their_sides(liquid, vapour):
         return refused(7)
     T, liquid, vapour = f64.exact(T), f64.exact(liquid), f64.exact(vapour)
-    terms = terms_of(table)
+    terms = terms_of(kind, table)
     heavy, light = phase(width, terms, T, liquid), phase(width, terms, T, vapour)
-    if too_high(pressure(heavy)) or too_high(pressure(light)):
+    if too_high(kind, pressure(heavy)) or too_high(kind, pressure(light)):
         return refused(8)
     if not pushes(pressure(light)):
         return with_ends(21, pressure(light))

@@ -22,7 +22,8 @@ from stream import Reader, record, run_of, words_of, words_of_bracket
 
 EACH = 1500
 GREATEST_NUMERATOR, GREATEST_DIVISOR = 2 ** 64 - 1, 2 ** 63
-DECIMALS = [(64714, 100), (46151805, 100000), (1, 3), (1, 10), (322, 1), (10 ** 17, 10 ** 16), (1, 10 ** 16)]
+DECIMALS = [(64714, 100), (46151805, 100000), (1, 3), (1, 10), (322, 1), (10 ** 17, 10 ** 16), (1, 10 ** 16), (40, 100),
+            (100, 100), (1, 100), (1023, 100)]
 
 
 def large(random, greatest):
@@ -63,7 +64,7 @@ def fits_f64(random, bits):
 
 def fields(random, bits):
     """What follows the kind, for each kind."""
-    a = random.choice([samples.sheet(random, bits, reach=random.choice([20, 20000])), ZERO])
+    a = random.choice([samples.sheet(random, bits, reach=random.choice([20, 20000, 80000])), ZERO])
     near = random.choice([samples.sheet_near(random, bits, a), ZERO])
     return (fraction(random, bits), [finite(random)], [random.getrandbits(random.randint(0, 32))],
             words_of(bits, fits_f64(random, bits)), words_of(bits, a) + words_of(bits, near))

@@ -1,6 +1,7 @@
-"""Pairs of densities over the whole accepted range, 200 at each width (fields as in stream.py).  Assumes a seed.
+"""Pairs of densities over the whole accepted range, 200 at each width for each kind of table (fields as in stream.py).
+Assumes the seeds below.
 
-Record: width, a sound table, T, liquid, vapour, with liquid above 322 above vapour.
+Record: width, kind, a sound table of that kind, T, liquid, vapour, with liquid above 322 above vapour.
 Line, 12 words, each two the ends of a bracket as f64s: liquid's pressure, vapour's pressure, liquid's less
 vapour's, Gibbs gap, liquid's stiffness, vapour's stiffness.
 """
@@ -10,6 +11,7 @@ from random import Random
 from gen_states import a_table, ends
 from second import f64
 from second.equation import gibbs_gap, phase, pressure, stiffness
+from second.kind import KINDS, NINE
 from second.logarithm import logarithm_of_ratio
 from second.term import terms_of
 from second.tests import samples
@@ -20,8 +22,9 @@ COUNT = 200
 DIVIDE = f64.word(322.0)
 
 
-def liquid(random):
-    return random.choice([samples.between(random, 322.01, 1288), samples.above(DIVIDE), f64.word(1288.0),
+def liquid(random, kind=NINE):
+    densest = samples.ends_of(kind.densities)[1]
+    return random.choice([samples.between(random, 322.01, densest), samples.above(DIVIDE), f64.word(densest),
                           f64.word(644.0)])
 
 
@@ -37,14 +40,16 @@ def near_322(random):
 
 
 def records():
-    random = Random(107)
-    for i in range(COUNT):
-        for bits in WIDTHS:
-            yield record(bits, a_table(random, i), samples.temperature(random), liquid(random), vapour(random))
+    for kind, random in ((kind, Random(107 + kind.number - 38)) for kind in KINDS.values()):
+        for i in range(COUNT):
+            for bits in WIDTHS:
+                yield record(bits, kind.number, a_table(random, i, kind), samples.temperature(random, kind),
+                             liquid(random, kind), vapour(random))
 
 
 def answer(reader):
-    bits, terms = reader.word(), terms_of(reader.table())
+    bits, kind = reader.word(), KINDS[reader.word()]
+    terms = terms_of(kind, reader.table())
     T, heavy, light = (f64.exact(reader.word()) for _ in range(3))
     ln_q = logarithm_of_ratio(bits, heavy, light)
     heavy, light = phase(bits, terms, T, heavy), phase(bits, terms, T, light)

@@ -1,7 +1,8 @@
-"""Exponentials and logarithms, 350 of each at each width (fields as in stream.py).  Assumes the seeds below.
+"""Exponentials and logarithms, 350 of each at each width, and 250 more of each for the longer record's factors and
+densities (fields as in stream.py).  Assumes the seeds below.
 
 Record, 8 words: width, kind, then six words.
-  0  the exponential of minus x: x (6), with 0 <= lower end and upper end <= 128
+  0  the exponential of minus x: x (6), with 0 <= lower end and upper end <= 128; down to 2^-292
   1  the logarithm of a density ratio: liquid, vapour as f64, then 0 four times; both in range, liquid >= vapour
 Line, 6 words: the bracket of the result.
 """
@@ -10,16 +11,18 @@ from random import Random
 
 from second import f64
 from second.bracket import Bracket, given, whole
-from second.equation import CRITICAL_DENSITY
+from second.equation import CRITICAL_DENSITY, exponent
 from second.exact import at_most
-from second.exponential import exponential_of_minus
+from second.exponential import GREATEST, exponential_of_minus
+from second.kind import NINE, TWELVE
 from second.logarithm import ln_2, logarithm_of_ratio
-from second.sheet import ZERO, down
+from second.sheet import ZERO, down, exact
+from second.term import Term
 from second.tests import samples
 from second.verdict import WIDTHS
 from stream import record, run_of, words_of_bracket
 
-EACH = 350
+EACH, MORE = 350, 250
 W = f64.word
 THINNEST, DENSEST, DIVIDE = W(2.0 ** -10), W(1288.0), W(322.0)
 
@@ -50,27 +53,47 @@ def arguments(random, bits):
         yield samples.ordered(bits, random.choice([ZERO, x.lower]), samples.narrow(random, bits, high=6.99).upper)
 
 
-def ratios(random):
-    """The same density twice, neighbours, both ends, next to powers of two, and all over the range."""
-    above, under = samples.above, samples.under
-    yield from ((DIVIDE, DIVIDE), (DENSEST, THINNEST), (above(DIVIDE), under(DIVIDE)), (above(DIVIDE), DIVIDE),
-                (W(644.0), DIVIDE), (under(W(644.0)), DIVIDE), (above(W(644.0)), DIVIDE), (DENSEST, DIVIDE),
-                (above(W(1.0)), W(1.0)), (above(THINNEST), THINNEST), (DENSEST, under(DENSEST)), (DENSEST, DENSEST))
+def longer_arguments(random, bits):
+    """The longer record's g: at the ends of c, factor and density, next to 128, and all over, down to 2^-292."""
+    for x in (128 * 2 ** bits, 128 * 2 ** bits - 1):
+        yield Bracket(bits, down(bits, x, 1, -bits), down(bits, x, 1, -bits))
+    yield from (given(bits, 1, 1, -e) for e in (292, 291, 282, 150))
     while True:
-        a, b = samples.density(random), samples.density(random)
+        thin, any_density = random.choice([THINNEST, W(2.0 ** random.uniform(-10, 0))]), samples.density(random, TWELVE)
+        for density in (thin, any_density):
+            delta = given(bits, *f64.exact(density)) / CRITICAL_DENSITY
+            c, factor = random.choice([1, 2, 3, 6, 14, 15]), random.choice([1, 40, 100, 200, 1023, random.randint(1, 1023)])
+            g = exponent(Term(c, factor, 1, 0, 0, 1), delta)
+            if at_most(exact(g.upper), GREATEST):
+                yield g
+        yield samples.narrow(random, bits, low=-292, high=random.choice([-60, 6.99]))
+        x = samples.narrow(random, bits, low=6.9, high=7 - 2.0 ** -20)
+        yield random.choice([x, Bracket(bits, samples.narrow(random, bits, low=-292, high=0).lower, x.upper)])
+
+
+def ratios(random, kind):
+    """The same density twice, neighbours, both ends, next to powers of two, and all over the range."""
+    densest = W(samples.ends_of(kind.densities)[1])
+    above, under = samples.above, samples.under
+    yield from ((DIVIDE, DIVIDE), (densest, THINNEST), (above(DIVIDE), under(DIVIDE)), (above(DIVIDE), DIVIDE),
+                (W(644.0), DIVIDE), (under(W(644.0)), DIVIDE), (above(W(644.0)), DIVIDE), (densest, DIVIDE),
+                (above(W(1.0)), W(1.0)), (above(THINNEST), THINNEST), (densest, under(densest)), (densest, densest))
+    while True:
+        a, b = samples.density(random, kind), samples.density(random, kind)
         yield (a, b) if at_most(f64.exact(b), f64.exact(a)) else (b, a)
         vapour = W(2.0 ** random.uniform(-10, 0))
-        power = vapour + (random.randint(0, 10) << 52)  # 2^k times as much
+        power = vapour + (random.randint(0, 10 if kind == NINE else 11) << 52)  # 2^k times as much
         yield random.choice([power, above(power)]), vapour
 
 
 def records():
     randoms = [Random(104 * bits) for bits in WIDTHS]
-    sources = [(bits, arguments(random, bits), ratios(random)) for bits, random in zip(WIDTHS, randoms)]
-    for _ in range(EACH):
-        for bits, xs, pairs in sources:
-            yield record(bits, 0, words_of_bracket(next(xs)))
-            yield record(bits, 1, *next(pairs), [0] * 4)
+    for make, kind, count in ((arguments, NINE, EACH), (longer_arguments, TWELVE, MORE)):
+        sources = [(bits, make(random, bits), ratios(random, kind)) for bits, random in zip(WIDTHS, randoms)]
+        for _ in range(count):
+            for bits, xs, pairs in sources:
+                yield record(bits, 0, words_of_bracket(next(xs)))
+                yield record(bits, 1, *next(pairs), [0] * 4)
 
 
 def answer(reader):

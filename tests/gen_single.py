@@ -2,7 +2,7 @@
 
 Record, 9 words: width, operation (0 sum, 1 difference, 2 product, 3 quotient), direction (0 down, 1 up), a (3), b (3).
 Line, 3 words: the down or up of the exact result, as a sheet number.
-Exponents of a and b lie between -20,000 and 20,000; a quotient's b is above zero.
+Exponents of a and b lie between -80,000 and 80,000; a quotient's b is above zero.
 """
 
 from random import Random
@@ -19,12 +19,12 @@ EACH = 3000  # of each operation in each direction at each width
 
 def operands(random, bits, operation):
     """Far apart, near, next to cancelling, short ones whose results are exact, the operation's edges, and zeros."""
-    a = samples.sheet(random, bits, reach=random.choice([20, 300, 19900]))
+    a = samples.sheet(random, bits, reach=random.choice([20, 300, 19900, 79900]))
     kind = random.randrange(15)
     if kind < 5:
         return a, samples.sheet_near(random, bits, a)
     if kind < 7:
-        return a, samples.sheet(random, bits, reach=20000)
+        return a, samples.sheet(random, bits, reach=random.choice([20000, 80000]))
     if kind < 9:
         return samples.sheet(random, bits, reach=60), samples.sheet(random, bits, reach=60)
     if kind < 14:

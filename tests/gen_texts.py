@@ -18,11 +18,13 @@ from typing import NamedTuple, Set
 
 sys.path.insert(0, os.path.dirname(os.path.dirname(os.path.abspath(__file__))))
 
-from second.term import MOST, SIZE, Term, packed, terms_of  # noqa: E402
+from second.kind import MOST, NINE  # noqa: E402
+from second.output import chosen  # noqa: E402
+from second.term import packed, table_of, term38, terms_of  # noqa: E402
 from second.tests import samples  # noqa: E402
 from second.tests.test_text import (PARTS, ROOMY, ROW, line_of, lines_of, slips, spelled, spelled_table,  # noqa: E402
                                     unspelled)
-from second.text import chosen, read_text, write_text  # noqa: E402
+from second.text import read_text, write_text  # noqa: E402
 from stream import record, run_of  # noqa: E402
 
 READ, WRITE = 0, 1
@@ -124,10 +126,10 @@ def long_texts(random):
 
 def with_some(random, table, kind):
     """The table with up to three of its terms as this kind makes them."""
-    terms = terms_of(table)
+    terms = terms_of(NINE, table)
     for place in random.sample(range(len(terms)), random.randint(1, min(3, len(terms)))):
         terms[place] = kind(random, terms[place])
-    return b"".join(map(packed, terms))
+    return table_of(NINE, terms)
 
 
 def broken(random, _):
@@ -159,18 +161,18 @@ def odd_tables(random):
         yield with_some(random, with_some(random, sized(random), unspelled), broken)
     for place in range(MOST):
         for kind in (unspelled, broken):
-            terms = terms_of(spelled_table(random, MOST, MOST))
+            terms = terms_of(NINE, spelled_table(random, MOST, MOST))
             terms[place] = kind(random, terms[place])
-            yield b"".join(map(packed, terms))
+            yield table_of(NINE, terms)
     for length in range(600):
-        yield b"".join(packed(random.choice([spelled, unspelled, broken])(random, samples.term(random)))
-                       for _ in range(67))[:length]
-    for length in range(0, 600, SIZE):
+        yield table_of(NINE, (random.choice([spelled, unspelled, broken])(random, samples.term(random))
+                              for _ in range(67)))[:length]
+    for length in range(0, 600, NINE.size):
         yield samples.sound_table(random, 67)[:length]
         yield random.getrandbits(4800).to_bytes(600, "big")[:length]
     for magnitude in edge_magnitudes():
-        yield packed(samples.term(random)._replace(magnitude=magnitude))
-    yield from (packed(Term(3, 15, 24, 1, 10 ** 9)) * count for count in (64, 65))  # the longest text, and one row more
+        yield packed(NINE, samples.term(random)._replace(magnitude=magnitude))
+    yield from (packed(NINE, term38(3, 15, 24, 1, 10 ** 9)) * count for count in (64, 65))  # the longest text, and one row more
     yield samples.table5()
     yield samples.odd_table()
 
@@ -183,7 +185,7 @@ def near(random, size):
 
 
 def read_call(random, text):
-    return READ, near(random, SIZE * min(text.count(b"\n"), MOST)), text
+    return READ, near(random, NINE.size * min(text.count(b"\n"), MOST)), text
 
 
 def write_call(random, table):

@@ -3,9 +3,9 @@
  *
  *   panel_twice CALLS DEEP [SEED]
  *
- * Every call has random bytes as its table and random bit patterns as its doubles; its width is mostly 32 or 53, and at
- * times any number.  Of every DEEP calls one is made to get as far as the equation: 32 or 53, a sound table of one to
- * three terms and numbers in their ranges; 0 makes none of these.
+ * Every call has random bytes as its table and random bit patterns as its doubles; its width is mostly 32 or 53, its kind
+ * mostly 38 or 58, and either at times any number.  Of every DEEP calls one is made to get as far as the equation: such a
+ * width and kind, a sound table of one to three terms and numbers in their ranges; 0 makes none of these.
  * Ends with a line 'N passed, M failed'. */
 #include <inttypes.h>
 #include <stdio.h>
@@ -13,7 +13,7 @@
 
 #include "waterbench.h"
 
-enum { LONGEST_TABLE = 600, NUMBERS = 5, TERM = 9 };
+enum { LONGEST_TABLE = 800, NUMBERS = 5, OLD_TERM = 9, NEW_TERM = 12 };
 
 static uint64_t state;
 
@@ -35,7 +35,7 @@ struct call {
     uint8_t table[LONGEST_TABLE];
     size_t length;
     double x[NUMBERS];
-    uint64_t width, function, choice;
+    uint64_t width, kind, function, choice;
 };
 
 static uint64_t sound_width(void)
@@ -43,10 +43,21 @@ static uint64_t sound_width(void)
     return next() % 2 ? 32 : 53;
 }
 
+static uint64_t sound_kind(void)
+{
+    return next() % 2 ? WB_NINE_BYTES : WB_TWELVE_BYTES;
+}
+
+static size_t term_bytes(uint64_t kind)
+{
+    return kind == WB_NINE_BYTES ? OLD_TERM : NEW_TERM;
+}
+
 static void any_call(struct call *c)
 {
+    c->kind = next() % 8 ? sound_kind() : next() >> next() % 64;
     /* one in four has a length that a table may have */
-    c->length = next() % 4 ? next() % (LONGEST_TABLE + 1) : TERM * (1 + next() % 64);
+    c->length = next() % 4 ? next() % (LONGEST_TABLE + 1) : term_bytes(c->kind) * (1 + next() % 64);
     for (size_t i = 0; i < LONGEST_TABLE; i++)
         c->table[i] = (uint8_t)next();
     for (int i = 0; i < NUMBERS; i++)
@@ -57,7 +68,7 @@ static void any_call(struct call *c)
 }
 
 /* c 2 bits, d 4 from 1, t 5 up to 24, sign 1, magnitude 60 up to 10^17 */
-static void sound_term(uint8_t *bytes)
+static void sound_old_term(uint8_t *bytes)
 {
     uint64_t magnitude = 1 + next() % 100000000000000000;
     unsigned head = (unsigned)(next() % 4) << 10 | (unsigned)(1 + next() % 15) << 6 | (unsigned)(next() % 25) << 1;
@@ -68,16 +79,33 @@ static void sound_term(uint8_t *bytes)
         bytes[2 + i] = (uint8_t)(magnitude >> (48 - 8 * i));
 }
 
+/* c 4 bits, factor 10, d 5 from 1, t 6, sign 1, magnitude 60 up to 10^17, 10 zeros; c and factor are 0 together */
+static void sound_new_term(uint8_t *bytes)
+{
+    uint64_t magnitude = 1 + next() % 100000000000000000;
+    uint64_t c = next() % 16;
+    uint64_t factor = c == 0 ? 0 : 1 + next() % 1023;
+    uint64_t head = c << 22 | factor << 12 | (1 + next() % 31) << 7 | (next() % 64) << 1 | next() % 2;
+    uint64_t front = head << 38 | magnitude >> 22; /* the first 64 bits */
+    uint64_t back = (magnitude & 0x3fffff) << 10;
+    for (int i = 0; i < 8; i++)
+        bytes[i] = (uint8_t)(front >> (56 - 8 * i));
+    for (int i = 0; i < 4; i++)
+        bytes[8 + i] = (uint8_t)(back >> (24 - 8 * i));
+}
+
 static void deep_call(struct call *c)
 {
     any_call(c);
     c->width = sound_width();
-    c->length = TERM * (1 + next() % 3);
-    for (size_t i = 0; i < c->length; i += TERM)
-        sound_term(c->table + i);
-    c->x[0] = between(273, 1273);
-    c->x[1] = between(322.5, 1288);
-    c->x[2] = c->function == 1 ? between(0, 1e9) : between(0.001, 321.5);
+    c->kind = sound_kind();
+    int old = c->kind == WB_NINE_BYTES;
+    c->length = term_bytes(c->kind) * (1 + next() % 3);
+    for (size_t i = 0; i < c->length; i += term_bytes(c->kind))
+        (old ? sound_old_term : sound_new_term)(c->table + i);
+    c->x[0] = between(c->function == 2 ? 273.16 : old ? 273 : 252, 1273);
+    c->x[1] = between(322.5, old ? 1288 : 2576);
+    c->x[2] = c->function == 1 ? between(0, old ? 1e9 : 25e9) : between(0.001, 321.5);
     c->x[3] = between(0, 1e6);
     c->x[4] = between(0, 1e6);
 }
@@ -87,11 +115,11 @@ static uint64_t made(const struct call *c)
     const double *x = c->x;
     switch (c->function) {
     case 0:
-        return wb_state(c->width, c->table, c->length, x[0], x[1], c->choice);
+        return wb_state(c->width, c->kind, c->table, c->length, x[0], x[1], c->choice);
     case 1:
-        return wb_density(c->width, c->table, c->length, x[0], x[1], x[2], x[3], c->choice);
+        return wb_density(c->width, c->kind, c->table, c->length, x[0], x[1], x[2], x[3], c->choice);
     default:
-        return wb_pair(c->width, c->table, c->length, x[0], x[1], x[2], x[3], x[4], c->choice);
+        return wb_pair(c->width, c->kind, c->table, c->length, x[0], x[1], x[2], x[3], x[4], c->choice);
     }
 }
 

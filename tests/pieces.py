@@ -1,5 +1,6 @@
 #!/usr/bin/env python3
-"""Runs the bench program at each width on input in pieces, and on a long list.  Ends with a line that counts.
+"""Runs the bench program at each width and for each kind of table on input in pieces, and on a long list.  Ends with a
+line that counts.
 
 The same bytes in one piece, byte by byte and in random pieces give the same lines; no input gives no line; a list of
 100,000 proposals is answered to its last line with no more memory than a list of one.  What the lines say is
@@ -16,8 +17,8 @@ import tempfile
 
 HERE = os.path.dirname(os.path.abspath(__file__))
 BENCH = [os.path.join(HERE, "run"), "bench"]
-TERM = bytes.fromhex("D5F0006E9B73B18500")
-WIDTHS = ("32", "53")
+TERMS = {"38": bytes.fromhex("D5F0006E9B73B18500"), "58": bytes.fromhex("3190A7C001BA6DCEC6140000")}  # the same one
+WORDS = [[width, kind] for width in ("32", "53") for kind in TERMS]
 LONG = 100000
 ROOM = 4096  # kilobytes that a long list may take beyond a short one
 
@@ -26,12 +27,12 @@ def proposal(*numbers):
     return struct.pack(">5d", *numbers)
 
 
-def output_of(width, pieces):
+def output_of(words, pieces):
     """What the program writes, and the most memory that it and all runs before it took."""
     with tempfile.TemporaryDirectory() as folder:
         with open(os.path.join(folder, "terms.bin"), "wb") as file:
-            file.write(TERM)
-        running = subprocess.Popen(BENCH + [width], cwd=folder, stdin=subprocess.PIPE, stdout=subprocess.PIPE,
+            file.write(TERMS[words[1]])
+        running = subprocess.Popen(BENCH + words, cwd=folder, stdin=subprocess.PIPE, stdout=subprocess.PIPE,
                                    bufsize=0)
         if len(pieces) > 1:  # few bytes: the output waits in its pipe
             for piece in pieces:
@@ -48,17 +49,17 @@ def cuts(data, chance):
     return [data[a:b] for a, b in zip([0] + places, places + [len(data)])]
 
 
-def results(width):
+def results(words):
     data = proposal(272, 1000, 1, 0, 0) + proposal(300, 322, 1, 0, 0) + proposal(300, 1000, 1, 0, 0) + b"\x40\x72\xc0"
-    whole, small = output_of(width, [data])
+    whole, small = output_of(words, [data])
     yield "four lines", whole.count("\n") == 4
-    yield "byte by byte", output_of(width, [data[i:i + 1] for i in range(len(data))])[0] == whole
+    yield "byte by byte", output_of(words, [data[i:i + 1] for i in range(len(data))])[0] == whole
     chance = random.Random(1)
     for _ in range(10):
-        yield "in pieces", output_of(width, cuts(data, chance))[0] == whole
-    yield "no input", output_of(width, [b""])[0] == ""
-    yield "39 bytes", output_of(width, [data[:39]])[0].split(" ")[:2] == ["1", "12"]
-    text, large = output_of(width, [proposal(272, 1000, 1, 0, 0) * LONG])
+        yield "in pieces", output_of(words, cuts(data, chance))[0] == whole
+    yield "no input", output_of(words, [b""])[0] == ""
+    yield "39 bytes", output_of(words, [data[:39]])[0].split(" ")[:2] == ["1", "12"]
+    text, large = output_of(words, [proposal(272, 1000, 1, 0, 0) * LONG])
     lines = text.split("\n")
     yield "a long list", len(lines) == LONG + 1 and lines[-2].split(" ")[0] == str(LONG)
     yield "in the same memory", large - small < ROOM
@@ -66,10 +67,10 @@ def results(width):
 
 def main():
     passed = failed = 0
-    for width, (what, good) in ((width, result) for width in WIDTHS for result in results(width)):
+    for words, (what, good) in ((words, result) for words in WORDS for result in results(words)):
         passed, failed = passed + good, failed + (not good)
         if not good:
-            print("pieces at %s bits: %s" % (width, what))
+            print("pieces at %s bits, kind %s: %s" % (*words, what))
     print("%d passed, %d failed" % (passed, failed))
     return 1 if failed else 0
 

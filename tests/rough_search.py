@@ -1,48 +1,62 @@
 """A rough search for saturation pairs, in floats: it only makes proposals, and nothing rests on it.
 
-`pair(T)` gives liquid and vapour density for T from 273 K to about 646.9 K.  Assumes data/table5.txt.
-`python3 tests/rough_search.py T...` prints T, liquid, vapour and pressure of each.
+`pair(T)` gives liquid and vapour density for T from 273 K to about 646.9 K, by Table 5; with 58 as the last parameter
+it and the readings are by Table 4.  Assumes data/terms.bin and data/terms58.bin.
+`python3 tests/rough_search.py T...` prints T, liquid, vapour and pressure of each, by Table 5 and by Table 4.
 """
 
 import math
 import os
 import sys
 
+ROOT = os.path.dirname(os.path.dirname(os.path.abspath(__file__)))
+sys.path.insert(0, ROOT)
+
+from second.kind import KINDS, NINE  # noqa: E402
+from second.term import HUNDRED, UNIT, terms_of  # noqa: E402
+
 TC, RHOC, R = 647.14, 322.0, 461.51805
-DATA = os.path.join(os.path.dirname(os.path.dirname(os.path.abspath(__file__))), "data", "table5.txt")
+FILES = {38: "terms.bin", 58: "terms58.bin"}  # the paper's tables, by kind
 
 
-def rows():
-    with open(DATA) as file:
-        return [(int(c), int(d), int(t), float(a)) for c, d, t, a in (line.split() for line in file)]
+def rows_of(kind, table):
+    """c, factor, d, t and coefficient of each term."""
+    return [(term.c, term.factor / HUNDRED, term.d, term.t, term.numerator() / UNIT) for term in terms_of(kind, table)]
 
 
-ROWS = rows()
+def rows(kind):
+    with open(os.path.join(ROOT, "data", FILES[kind.number]), "rb") as file:
+        return rows_of(kind, file.read())
 
 
-def sums(T, rho, table=None):
+ROWS = {number: rows(kind) for number, kind in KINDS.items()}
+
+
+def sums(T, rho, table):
+    """S0, S1, S2.  They are summed without rounding: in thin cold vapour Table 4 has two terms for each of its last four
+    rows that are large and nearly cancel."""
     delta, tau = rho / RHOC, TC / T
-    s0 = s1 = s2 = 0.0
-    for c, d, t, a in table or ROWS:
-        g = c * delta ** c
-        v = a * delta ** d * tau ** t * (math.exp(-delta ** c) if c else 1.0)
-        w = d - g
-        s0, s1, s2 = s0 + v, s1 + v * w, s2 + v * (w * (w - 1) - c * g)
-    return s0, s1, s2
+    addends = []
+    for c, factor, d, t, a in table:
+        g = factor * delta ** c
+        v = a * delta ** d * tau ** t * (math.exp(-g) if c else 1.0)
+        w = d - c * g
+        addends.append((v, v * w, v * (w * (w - 1) - c * (c * g))))
+    return tuple(map(math.fsum, zip(*addends)))
 
 
-def pressure(T, rho):
-    return rho * R * T * (1 + sums(T, rho)[1])
+def pressure(T, rho, kind=NINE.number):
+    return rho * R * T * (1 + sums(T, rho, ROWS[kind])[1])
 
 
-def stiffness(T, rho):
-    _, s1, s2 = sums(T, rho)
+def stiffness(T, rho, kind=NINE.number):
+    _, s1, s2 = sums(T, rho, ROWS[kind])
     return R * T * (1 + 2 * s1 + s2)
 
 
-def gibbs(T, rho):
+def gibbs(T, rho, kind=NINE.number):
     """Up to what depends on T alone, which cancels between the phases."""
-    s0, s1, _ = sums(T, rho)
+    s0, s1, _ = sums(T, rho, ROWS[kind])
     return R * T * (math.log(rho) + s0 + s1)
 
 
@@ -56,11 +70,12 @@ def first_guess(T):
     return RHOC * heavy, RHOC * light
 
 
-def newton(T, heavy, light):
+def newton(T, heavy, light, kind):
     """Both phases at equal pressure and equal Gibbs energy; dg = dp/rho along an isotherm."""
     for _ in range(60):
-        gap, gibbs_gap = pressure(T, heavy) - pressure(T, light), gibbs(T, heavy) - gibbs(T, light)
-        a, b = stiffness(T, heavy), stiffness(T, light)
+        gap = pressure(T, heavy, kind) - pressure(T, light, kind)
+        gibbs_gap = gibbs(T, heavy, kind) - gibbs(T, light, kind)
+        a, b = stiffness(T, heavy, kind), stiffness(T, light, kind)
         # a dh - b dl = -gap and (a/heavy) dh - (b/light) dl = -gibbs_gap
         det = a * b * (1 / heavy - 1 / light)
         if det == 0:
@@ -74,15 +89,15 @@ def newton(T, heavy, light):
     return heavy, light
 
 
-def pair(T):
+def pair(T, kind=NINE.number):
     """(liquid, vapour) at T; None where the search does not settle on two phases."""
-    found = newton(T, *first_guess(T))
+    found = newton(T, *first_guess(T), kind)
     if found is None:
         return None
     heavy, light = found
-    if not (heavy > RHOC > light > 0 and stiffness(T, heavy) > 0 and stiffness(T, light) > 0):
+    if not (heavy > RHOC > light > 0 and stiffness(T, heavy, kind) > 0 and stiffness(T, light, kind) > 0):
         return None
-    if abs(pressure(T, heavy) / pressure(T, light) - 1) > 1e-3:
+    if abs(pressure(T, heavy, kind) / pressure(T, light, kind) - 1) > 1e-3:
         return None
     return found
 
@@ -90,5 +105,6 @@ def pair(T):
 if __name__ == "__main__":
     for argument in sys.argv[1:] or ["273.16", "300", "373.15", "500", "600", "645"]:
         T = float(argument)
-        found = pair(T)
-        print(T, *(found + (pressure(T, found[1]),) if found else ("no pair",)))
+        for kind in KINDS:
+            found = pair(T, kind)
+            print(T, kind, *(found + (pressure(T, found[1], kind),) if found else ("no pair",)))

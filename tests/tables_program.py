@@ -19,7 +19,8 @@ HERE = os.path.dirname(os.path.abspath(__file__))
 ROOT = os.path.dirname(HERE)
 sys.path.insert(0, ROOT)
 
-from second.term import MOST, SIZE, packed, terms_of  # noqa: E402
+from second.kind import MOST, NINE  # noqa: E402
+from second.term import table_of, terms_of  # noqa: E402
 from second.tests import samples  # noqa: E402
 from second.tests.test_text import ROW, ROW_38, lines_of, slips, spelled_table, unspelled  # noqa: E402
 from second.text import tables  # noqa: E402
@@ -109,12 +110,12 @@ def bad_tables(chance):
     for length in (0, 1, 8, 10, 17, 567, 575, 576, 577, 584, 585, 586, 1152):
         yield "%d bytes" % length, same(["write"], (ROW_38 * 200)[:length])
     for _ in range(BADLY):
-        terms = terms_of(spelled_table(chance))
+        terms = terms_of(NINE, spelled_table(chance))
         place = chance.randrange(len(terms))
         terms[place] = unspelled(chance, terms[place])
-        yield "no spelling", same(["write"], b"".join(map(packed, terms)))
+        yield "no spelling", same(["write"], table_of(NINE, terms))
         terms[chance.randrange(len(terms))] = samples.broken_term(chance)
-        yield "a broken term", same(["write"], b"".join(map(packed, terms)))
+        yield "a broken term", same(["write"], table_of(NINE, terms))
 
 
 def long_inputs(chance):
@@ -147,7 +148,7 @@ def cuts(chance, data):
 
 def in_pieces(chance):
     for word, data in (("read", ROW * 3), ("read", ROW * 2 + b"x\n" + ROW), ("read", ROW[:-1]), ("write", ROW_38 * 3),
-                       ("write", ROW_38 + bytes(SIZE)), ("write", ROW_38[:-1]), ("read", ROW * 66)):
+                       ("write", ROW_38 + bytes(NINE.size)), ("write", ROW_38[:-1]), ("read", ROW * 66)):
         yield "byte by byte", same([word], *bytes_of(data))
         for _ in range(3):
             yield "in pieces", same([word], *cuts(chance, data))

@@ -66,6 +66,11 @@ class Plain:
             terms.append(self.over(self.times(terms[-1], x), self.given(k)))
         return self.over(self.given(1), self.guarded(terms))
 
+    def cut_off(self, g):
+        """E where g may be above 128 (02 h)."""
+        x = min(Fraction(128), g[0])
+        return Fraction(0), self.exponential((x, x))[1]
+
     def series(self, z):
         powers = [z]
         for _ in range(20):
@@ -74,7 +79,7 @@ class Plain:
         return self.times(self.given(2), self.guarded(quotients))
 
     def logarithm(self, liquid, vapour):
-        k = max(k for k in range(21) if 2 ** k <= liquid / vapour)
+        k = max(k for k in range(22) if 2 ** k <= liquid / vapour)
         r = self.over(self.given(liquid), self.times(self.given(vapour), self.given(2 ** k)))
         z = self.over(self.less(r, self.given(1)), self.plus(r, self.given(1)))
         return self.plus(self.times(self.given(k), self.series(self.given(Fraction(1, 3)))), self.series(z))
@@ -85,16 +90,17 @@ class Plain:
         given, plus, less, times, power = self.given, self.plus, self.less, self.times, self.power
         delta, tau = self.over(given(rho), given(322)), self.over(given(Fraction("647.14")), given(T))
         s0 = s1 = s2 = given(0)
-        for c, d, t, negative, magnitude in terms:
+        for c, factor, d, t, negative, magnitude, _ in terms:
             v = times(given(Fraction((-1) ** negative * magnitude, 10 ** 16)), power(delta, d))
             v = times(v, power(tau, t))
             w = given(d)
             if c > 0:
-                v = times(v, self.exponential(power(delta, c)))
-                w = less(w, times(given(c), power(delta, c)))
+                g = times(given(Fraction(factor, 100)), power(delta, c))
+                v = times(v, self.exponential(g) if g[1] <= 128 else self.cut_off(g))
+                w = less(w, times(given(c), g))
             inner = times(w, less(w, given(1)))
             if c > 0:
-                inner = less(inner, times(given(c * c), power(delta, c)))
+                inner = less(inner, times(given(c * c), g))
             s0, s1, s2 = plus(s0, v), plus(s1, times(v, w)), plus(s2, times(v, inner))
         return s0, s1, s2
 

@@ -1,5 +1,5 @@
-"""The rows of 01's "Both sides of the line", and those of 02 b, d and f, through the three public functions, as the
-program both_sides writes them.
+"""The rows of 01's "Both sides of the line", and those of 02 b, d and f, through the three public functions for
+nine-byte tables, as the program both_sides writes them.
 
     python3 -m second.tests.test_both_sides >crates/both_sides/stdout
 
@@ -34,8 +34,9 @@ nothing.
 import os
 
 from second import f64
+from second.kind import NINE
 from second.tests.samples import INFINITY, NAN, NEGATIVE, ROOT, WRONG_WIDTHS, above, odd_table, under
-from second.term import Term, packed
+from second.term import packed, term38
 from second.verdict import WIDTHS, density_check, pair_check, state_sheet
 
 W = f64.word
@@ -43,9 +44,9 @@ LEAST = 1  # the bits of 2^-1074
 WIDE = W(1e6)
 T, RHO, LIQUID, VAPOUR = W(300.0), W(1.0), W(322.125), W(321.875)  # accepted with EASY, all of them
 
-EASY = packed(Term(0, 1, 0, 0, 10 ** 13))  # small and positive
-NONE = packed(Term(0, 1, 0, 1, 10 ** 16))  # coefficient -1: no pressure at density 322
-STIFF = packed(Term(0, 1, 0, 1, 3 * 10 ** 16)) + packed(Term(0, 2, 0, 0, 10 ** 16))  # nor here, but it pushes back
+EASY = packed(NINE, term38(0, 1, 0, 0, 10 ** 13))  # small and positive
+NONE = packed(NINE, term38(0, 1, 0, 1, 10 ** 16))  # coefficient -1: no pressure at density 322
+STIFF = packed(NINE, term38(0, 1, 0, 1, 3 * 10 ** 16)) + packed(NINE, term38(0, 2, 0, 0, 10 ** 16))  # nor here, but it pushes back
 CEILING = bytes.fromhex("040003124af21a859a")  # at 1250 K and 1288 kg/m3 the upper end of pressure is 10^9 at 32 bits
 OVER = bytes.fromhex("040003124af21a859b")  # there it is the next sheet number
 FINE_CEILING = bytes.fromhex("040028ec62df053562")  # the same two for 53 bits, at 300 K
@@ -79,9 +80,9 @@ def temperatures(width):
             ("T infinity", INFINITY, 3, 3),
             ("T -infinity", INFINITY | NEGATIVE, 3, 3)):
         label = valued(label, t)
-        yield line(width, "state sheet", label, state_sheet(width, EASY, t, RHO), (number,))
-        yield line(width, "density check", label, density_check(width, EASY, t, RHO, 0, WIDE), (number,))
-        yield line(width, "pair check", label, pair_check(width, EASY, t, LIQUID, VAPOUR, WIDE, WIDE), (pair,))
+        yield line(width, "state sheet", label, state_sheet(width, 38, EASY, t, RHO), (number,))
+        yield line(width, "density check", label, density_check(width, 38, EASY, t, RHO, 0, WIDE), (number,))
+        yield line(width, "pair check", label, pair_check(width, 38, EASY, t, LIQUID, VAPOUR, WIDE, WIDE), (pair,))
 
 
 def densities(width):
@@ -94,16 +95,16 @@ def densities(width):
             ("density infinity", INFINITY, (4,), (4,), (4,)),
             ("density -infinity", INFINITY | NEGATIVE, (4,), (4,), (4,))):
         label = valued(label, rho)
-        yield line(width, "state sheet", label, state_sheet(width, EASY, T, rho), allowed)
-        yield line(width, "density check", label, density_check(width, EASY, T, rho, 0, WIDE), allowed)
-        yield line(width, "pair check's liquid", label, pair_check(width, EASY, T, rho, VAPOUR, WIDE, WIDE), liquid)
-        yield line(width, "pair check's vapour", label, pair_check(width, EASY, T, LIQUID, rho, WIDE, WIDE), vapour)
+        yield line(width, "state sheet", label, state_sheet(width, 38, EASY, T, rho), allowed)
+        yield line(width, "density check", label, density_check(width, 38, EASY, T, rho, 0, WIDE), allowed)
+        yield line(width, "pair check's liquid", label, pair_check(width, 38, EASY, T, rho, VAPOUR, WIDE, WIDE), liquid)
+        yield line(width, "pair check's vapour", label, pair_check(width, 38, EASY, T, LIQUID, rho, WIDE, WIDE), vapour)
 
 
 def three(width, label, table, allowed, t=T, rho=RHO, target=0, liquid=LIQUID, vapour=VAPOUR, pair=None):
-    yield line(width, "state sheet", label, state_sheet(width, table, t, rho), allowed)
-    yield line(width, "density check", label, density_check(width, table, t, rho, target, WIDE), allowed)
-    yield line(width, "pair check", label, pair_check(width, table, t, liquid, vapour, WIDE, WIDE), pair or allowed)
+    yield line(width, "state sheet", label, state_sheet(width, 38, table, t, rho), allowed)
+    yield line(width, "density check", label, density_check(width, 38, table, t, rho, target, WIDE), allowed)
+    yield line(width, "pair check", label, pair_check(width, 38, table, t, liquid, vapour, WIDE, WIDE), pair or allowed)
 
 
 def tables(width):
@@ -112,7 +113,7 @@ def tables(width):
 
 
 def terms(width):
-    least = Term(0, 1, 0, 0, 1)
+    least = term38(0, 1, 0, 0, 1)
     for label, term, number in (
             ("t 24", least._replace(t=24), 0),
             ("t 25", least._replace(t=25), 2),
@@ -121,9 +122,9 @@ def terms(width):
             ("magnitude 1", least, 0),
             ("magnitude 0", least._replace(magnitude=0), 2),
             ("d 0", least._replace(d=0), 2)):
-        yield from three(width, label, packed(term), (number,))
-    broken = packed(least._replace(d=0)) + packed(least._replace(magnitude=0))
-    yield from three(width, "terms 2 and 3 broken", packed(least) + broken, (2,))
+        yield from three(width, label, packed(NINE, term), (number,))
+    broken = packed(NINE, least._replace(d=0)) + packed(NINE, least._replace(magnitude=0))
+    yield from three(width, "terms 2 and 3 broken", packed(NINE, least) + broken, (2,))
 
 
 def ceilings(width):
@@ -155,7 +156,7 @@ def targets(width):
             ("target NaN", NAN, (5,)),
             ("target infinity", INFINITY, (5,)),
             ("target -infinity", INFINITY | NEGATIVE, (5,))):
-        answer = density_check(width, STIFF, T, W(322.0), target, 0)
+        answer = density_check(width, 38, STIFF, T, W(322.0), target, 0)
         yield line(width, "density check", valued(label, target), answer, allowed)
 
 
@@ -172,9 +173,9 @@ def tolerances(width):
             ("tolerance infinity", INFINITY, (6, 6, 6)),
             ("tolerance -infinity", INFINITY | NEGATIVE, (6, 6, 6))):
         label = valued(label, tolerance)
-        answers = (density_check(width, STIFF, T, W(322.0), 0, tolerance),
-                   pair_check(width, EASY, T, LIQUID, VAPOUR, tolerance, WIDE),
-                   pair_check(width, EASY, T, LIQUID, VAPOUR, WIDE, tolerance))
+        answers = (density_check(width, 38, STIFF, T, W(322.0), 0, tolerance),
+                   pair_check(width, 38, EASY, T, LIQUID, VAPOUR, tolerance, WIDE),
+                   pair_check(width, 38, EASY, T, LIQUID, VAPOUR, WIDE, tolerance))
         for who, answer, number in zip(("density check", "pair check's pressure", "pair check's Gibbs energy"),
                                        answers, numbers):
             yield line(width, who, label, answer, (number,))
@@ -183,10 +184,10 @@ def tolerances(width):
 def sides(width):
     edge = W(322.0)
     for label, rho, number in (("liquid 322", edge, 7), ("liquid next above 322", above(edge), 0)):
-        answer = pair_check(width, EASY, T, rho, VAPOUR, WIDE, WIDE)
+        answer = pair_check(width, 38, EASY, T, rho, VAPOUR, WIDE, WIDE)
         yield line(width, "pair check", valued(label, rho), answer, (number,))
     for label, rho, number in (("vapour 322", edge, 7), ("vapour next under 322", under(edge), 0)):
-        answer = pair_check(width, EASY, T, LIQUID, rho, WIDE, WIDE)
+        answer = pair_check(width, 38, EASY, T, LIQUID, rho, WIDE, WIDE)
         yield line(width, "pair check", valued(label, rho), answer, (number,))
 
 
@@ -195,7 +196,7 @@ def least_gaps(width):
             ("gap of 0, tolerance 0", 0, 0, 11),
             ("gap of -2^-1074, tolerance 0", LEAST, 0, 9),
             ("gap of -2^-1074, tolerance 2^-1074", LEAST, LEAST, 11)):
-        yield line(width, "density check", label, density_check(width, NONE, T, W(322.0), target, tolerance), (number,))
+        yield line(width, "density check", label, density_check(width, 38, NONE, T, W(322.0), target, tolerance), (number,))
 
 
 def stiffnesses(width):
@@ -208,8 +209,8 @@ def stiffnesses(width):
             ("stiffness 0 at half the density", 161.0, 10 ** 16, 11, 11),
             ("stiffness down to 0 at 53", 161.0, 10 ** 16 - 1, 11, 11),
             ("stiffness above 0 at 53", 161.0, 10 ** 16 - 2, 11, 0)):
-        table, number = packed(Term(0, 1, 0, 1, magnitude)), coarse if width == 32 else fine
-        answer = density_check(width, table, T, W(rho), W(22e6 * (rho / 322)), WIDE)
+        table, number = packed(NINE, term38(0, 1, 0, 1, magnitude)), coarse if width == 32 else fine
+        answer = density_check(width, 38, table, T, W(rho), W(22e6 * (rho / 322)), WIDE)
         yield line(width, "density check", label, answer, (number,))
 
 
@@ -221,8 +222,8 @@ def vapours(width):
             ("vapour's pressure above 0 at 32", 19999999995343387, 9, 9),
             ("vapour's pressure down to 0 at 53", 19999999999999998, 21, 21),
             ("vapour's pressure above 0 at 53", 19999999999999997, 21, 9)):
-        table, number = packed(Term(0, 1, 0, 1, magnitude)), coarse if width == 32 else fine
-        yield line(width, "pair check", label, pair_check(width, table, T, LIQUID, W(161.0), WIDE, WIDE), (number,))
+        table, number = packed(NINE, term38(0, 1, 0, 1, magnitude)), coarse if width == 32 else fine
+        yield line(width, "pair check", label, pair_check(width, 38, table, T, LIQUID, W(161.0), WIDE, WIDE), (number,))
 
 
 def odd(width):
@@ -232,9 +233,9 @@ def odd(width):
             ("below zero", W(476.11653), W(267.05587), 21),
             ("above zero", W(494.77736), W(7.668745), 0)):
         label = "odd table, " + label
-        yield line(width, "state sheet's liquid", label, state_sheet(width, table, t, liquid), (0,))
-        yield line(width, "state sheet's vapour", label, state_sheet(width, table, t, vapour), (0,))
-        answer = pair_check(width, table, t, liquid, vapour, W(1000.0), W(1.0))
+        yield line(width, "state sheet's liquid", label, state_sheet(width, 38, table, t, liquid), (0,))
+        yield line(width, "state sheet's vapour", label, state_sheet(width, 38, table, t, vapour), (0,))
+        answer = pair_check(width, 38, table, t, liquid, vapour, W(1000.0), W(1.0))
         yield line(width, "pair check", label, answer, (number,))
 
 

@@ -51,7 +51,7 @@ def test_power_by_recursion(width):
 
 
 def test_whole_numbers_are_exact():
-    for n in list(range(0, 257)) + [322] + [2 ** k for k in range(21)]:
+    for n in list(range(0, 257)) + [322] + [2 ** k for k in range(22)]:
         for bits in (8, 32, 53):
             b = whole(bits, n)
             assert b.lower == b.upper and fraction(exact(b.lower)) == n
@@ -70,7 +70,7 @@ def test_P10(width):
 
 def test_exponential_covers_its_levels():
     for bits in (32, 53):
-        for x in (0, 1, Fraction(1, 1024 * 322) ** 3, Fraction(5, 7), 4, 64, 127, 128):
+        for x in (0, 1, Fraction(1, 1024 * 322) ** 3, Fraction(1, 1024 * 322) ** 15 / 100, Fraction(5, 7), 4, 64, 127, 128):
             x = Fraction(x)
             b = exponential_of_minus(given(bits, x.numerator, x.denominator))
             assert b.lower[0] > 0
@@ -82,7 +82,8 @@ def test_logarithm_covers_its_levels():
     one = f64.word(1.0)
     pairs = [(one, one), (samples.above(one), one), (f64.word(1288.0), f64.word(2.0 ** -10)),
              (f64.word(644.0), f64.word(322.0)), (samples.under(f64.word(644.0)), f64.word(322.0)),
-             (samples.above(f64.word(322.0)), samples.under(f64.word(322.0))), (f64.word(958.25), f64.word(0.59765625))]
+             (samples.above(f64.word(322.0)), samples.under(f64.word(322.0))), (f64.word(958.25), f64.word(0.59765625)),
+             (f64.word(2576.0), f64.word(2.0 ** -10))]
     for bits in (32, 53):
         for liquid, vapour in pairs:
             x, y = f64.exact(liquid), f64.exact(vapour)
@@ -97,6 +98,7 @@ def test_doublings_are_decided_on_the_exact_inputs():
     assert doublings(f64.exact(f64.word(644.0)), f64.exact(low)) == 1
     assert doublings(f64.exact(samples.under(f64.word(644.0))), f64.exact(low)) == 0
     assert doublings(f64.exact(f64.word(1288.0)), f64.exact(f64.word(2.0 ** -10))) == 20
+    assert doublings(f64.exact(f64.word(2576.0)), f64.exact(f64.word(2.0 ** -10))) == 21
 
 
 def test_ratio_next_to_a_power_of_two_keeps_its_negative_end():

@@ -7,9 +7,9 @@ from second.verdict import pair_check
 
 
 def test_files():
-    for width, proposals, answered, table, make in propose.FILES:
+    for width, kind, proposals, answered, table, make in propose.FILES:
         assert data(proposals) == propose.packed(make())
-        assert data(answered).decode() == propose.answers(width, table, make())
+        assert data(answered).decode() == propose.answers(width, kind, table, make())
 
 
 def numbers(answered):
@@ -21,6 +21,10 @@ def test_numbers():
     accepted = [0] * (2 + len(propose.CELSIUS))
     assert numbers("lines.txt") == accepted + [9, 10, 9, 7, 3, 3]
     assert numbers("lines53.txt") == accepted + [9, 10, 0, 7, 3, 3]
+    cool, hot = [0] * len(propose.COOL), [0] * len(propose.HOT)
+    assert numbers("lines58_53.txt") == cool + hot + [9, 10, 0, 7, 4, 9, 3]
+    assert set(numbers("lines58.txt")[:len(cool)]) == {9, 21}
+    assert numbers("lines58.txt")[len(cool):] == hot + [9, 10, 9, 7, 4, 9, 3]
     assert numbers("odd_lines.txt") == numbers("odd_lines53.txt") == [0, 21, 21, 9, 10, 11]
 
 
@@ -28,4 +32,4 @@ def test_densities_of_eight_digits():
     """What docs/TOLERANCES.md says of them: these tolerances are enough at 53 bits."""
     for i in range(41):
         proposal = propose.found(0.01 + 3.5 * i) + (20.0, 0.03)
-        assert pair_check(53, table5(), *map(f64.word, proposal)).number == 0, proposal
+        assert pair_check(53, 38, table5(), *map(f64.word, proposal)).number == 0, proposal

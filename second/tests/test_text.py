@@ -5,9 +5,11 @@ The slips and the random rows are for the comparisons too.  Assumes nothing.
 
 import random as randoms
 
-from second.term import MOST, Term, packed, terms_of
+from second.kind import MOST, NINE
+from second.output import chosen
+from second.term import packed, table_of, term38, terms_of
 from second.tests.samples import broken_term, data, odd_table, table5, term
-from second.text import LONGEST_ROW, chosen, read_text, row_of, tables, term_of, write_text
+from second.text import LONGEST_ROW, read_text, row_of, tables, term_of, write_text
 
 ROW = b"3 5 15 -0.1216139400e-1\n"
 ROW_38 = bytes.fromhex("D5F0006E9B73B18500")
@@ -84,26 +86,26 @@ def unspelled(random, term):
 
 
 def spelled_table(random, most=MOST, least=1):
-    return b"".join(packed(spelled(random, term(random))) for _ in range(random.randint(least, most)))
+    return table_of(NINE, (spelled(random, term(random)) for _ in range(random.randint(least, most))))
 
 
 def lines_of(table):
     """The lines of a table whose terms have spellings, each with its line feed."""
-    return [row_of(term) for term in terms_of(table)]
+    return [row_of(term) for term in terms_of(NINE, table)]
 
 
 # the tests
 
 def test_row_38():
-    assert read_text(ROW, 9) == (0, 0, ROW_38)
-    assert write_text(ROW_38, len(ROW)) == (0, 0, ROW)
-    assert line_of(PARTS) == ROW and term_of(ROW[:-1]) == Term(3, 5, 15, 1, 121613940000000)
+    assert read_text(ROW, 9) == (0, 0, 9, ROW_38)
+    assert write_text(ROW_38, len(ROW)) == (0, 0, len(ROW), ROW)
+    assert line_of(PARTS) == ROW and term_of(ROW[:-1]) == term38(3, 5, 15, 1, 121613940000000)
 
 
 def test_the_tables_that_ship():
     for text, table in ((data("table5.txt"), table5()), (data("odd.txt"), odd_table())):
-        assert read_text(text, len(table)) == (0, 0, table)
-        assert write_text(table, len(text)) == (0, 0, text)
+        assert read_text(text, len(table)) == (0, 0, len(table), table)
+        assert write_text(table, len(text)) == (0, 0, len(text), text)
 
 
 def test_every_number_and_power():
@@ -116,7 +118,7 @@ def test_every_number_and_power():
         digits, word = b"9876543210", b"%d" % power
         for sign, negative in ((b"", 0), (b"-", 1)):
             term = term_of(b"0 1 0 %s0.%se%s" % (sign, digits, word))
-            assert term == (0, 1, 0, negative, 9876543210 * 10 ** (power + 6))
+            assert term == term38(0, 1, 0, negative, 9876543210 * 10 ** (power + 6))
 
 
 def test_every_byte_of_row_38():
@@ -138,24 +140,24 @@ def test_slips():
         for slip in slips(lines[place]):
             text = b"".join(lines[:place] + [slip] + lines[place + 1:])
             for room in (0, ROOMY):
-                assert read_text(text, room) == (16, place + 1, b""), text
+                assert read_text(text, room) == (16, place + 1, 0, b""), text
 
 
 def test_texts_that_end_wrong():
-    assert read_text(b"", 0) == read_text(b"", ROOMY) == (16, 1, b"")
-    assert read_text(b"\n", ROOMY) == (16, 1, b"")
-    assert read_text(ROW[:-1], ROOMY) == (16, 1, b"")
-    assert read_text(ROW + b"\n", ROOMY) == read_text(ROW + ROW[:-1], ROOMY) == read_text(ROW + b"3", 0) == (16, 2, b"")
-    assert read_text(ROW + b"\x00", ROOMY) == read_text(ROW + b"\x1a", ROOMY) == (16, 2, b"")
+    assert read_text(b"", 0) == read_text(b"", ROOMY) == (16, 1, 0, b"")
+    assert read_text(b"\n", ROOMY) == (16, 1, 0, b"")
+    assert read_text(ROW[:-1], ROOMY) == (16, 1, 0, b"")
+    assert read_text(ROW + b"\n", ROOMY) == read_text(ROW + ROW[:-1], ROOMY) == read_text(ROW + b"3", 0) == (16, 2, 0, b"")
+    assert read_text(ROW + b"\x00", ROOMY) == read_text(ROW + b"\x1a", ROOMY) == (16, 2, 0, b"")
 
 
 def test_a_65th_row():
     """Line 65, whatever stands there; a bad row before it comes first."""
-    assert read_text(ROW * 64, 576) == (0, 0, ROW_38 * 64)
+    assert read_text(ROW * 64, 576) == (0, 0, 576, ROW_38 * 64)
     for behind in (ROW, ROW * 2, b"\n", b"x", b"\x00", ROW[:-1], b"4 0 25\n", b"\n" * 1000, ROW * 1000):
-        assert read_text(ROW * 64 + behind, 0) == read_text(ROW * 64 + behind, ROOMY) == (16, 65, b"")
-        assert read_text(ROW * 63 + b"3\n" + behind, ROOMY) == (16, 64, b"")
-        assert read_text(ROW * 40 + b"\n" + ROW * 40 + behind, ROOMY) == (16, 41, b"")
+        assert read_text(ROW * 64 + behind, 0) == read_text(ROW * 64 + behind, ROOMY) == (16, 65, 0, b"")
+        assert read_text(ROW * 63 + b"3\n" + behind, ROOMY) == (16, 64, 0, b"")
+        assert read_text(ROW * 40 + b"\n" + ROW * 40 + behind, ROOMY) == (16, 41, 0, b"")
 
 
 def test_round_trips():
@@ -163,9 +165,9 @@ def test_round_trips():
     for _ in range(500):
         table = spelled_table(random)
         written = write_text(table, ROOMY)
-        assert written == (0, 0, b"".join(lines_of(table)))
+        assert written == (0, 0, len(written.output), b"".join(lines_of(table)))
         read = read_text(written.output, len(table))
-        assert read == (0, 0, table)
+        assert read == (0, 0, len(table), table)
         assert write_text(read.output, len(written.output)) == written
 
 
@@ -173,21 +175,21 @@ def test_spellings():
     """Both sides of every line between the magnitudes that have one and those that do not."""
     first = [n * 10 ** power for power in range(8) for n in (10 ** 9, 10 ** 9 + 1, 10 ** 10 - 1)]
     for magnitude in first:
-        table = packed(Term(1, 1, 0, 0, magnitude))
-        assert read_text(write_text(table, ROOMY).output, 9) == (0, 0, table)
+        table = packed(NINE, term38(1, 1, 0, 0, magnitude))
+        assert read_text(write_text(table, ROOMY).output, 9) == (0, 0, 9, table)
     for magnitude in [1, 10 ** 8, 10 ** 9 - 1, 10 ** 10 + 1, 10 ** 17 - 1, 10 ** 17, 10 ** 17 - 10 ** 6] + [
             n + step for n in first for step in (1, -1) if n > 10 ** 10]:
-        assert write_text(packed(Term(1, 1, 0, 0, magnitude)), ROOMY) == (17, 1, b""), magnitude
+        assert write_text(packed(NINE, term38(1, 1, 0, 0, magnitude)), ROOMY) == (17, 1, 0, b""), magnitude
 
 
 def test_the_first_term_with_no_spelling():
     random = randoms.Random(33)
     for _ in range(300):
-        terms = terms_of(spelled_table(random))
+        terms = terms_of(NINE, spelled_table(random))
         places = sorted(random.sample(range(len(terms)), random.randint(1, min(3, len(terms)))))
         for place in places:
             terms[place] = unspelled(random, terms[place])
-        assert write_text(b"".join(map(packed, terms)), random.choice([0, ROOMY])) == (17, places[0] + 1, b"")
+        assert write_text(table_of(NINE, terms), random.choice([0, ROOMY])) == (17, places[0] + 1, 0, b"")
 
 
 def test_room():
@@ -198,23 +200,23 @@ def test_room():
         text = b"".join(lines_of(table))
         for call, lent, output in ((read_text, text, table), (write_text, table, text)):
             for room in (0, 1, len(output) - 1):
-                assert call(lent, room) == (18, 0, b"")
+                assert call(lent, room) == (18, 0, 0, b"")
             for room in (len(output), len(output) + 1, 10 ** 6):
-                assert call(lent, room) == (0, 0, output)
-    assert len(write_text(packed(Term(3, 15, 24, 1, 10 ** 9)) * 64, ROOMY).output) == ROOMY
+                assert call(lent, room) == (0, 0, len(output), output)
+    assert len(write_text(packed(NINE, term38(3, 15, 24, 1, 10 ** 9)) * 64, ROOMY).output) == ROOMY
 
 
 def test_order_of_the_refusals():
     """16 before 18; 1, then 2, then 17, then 18."""
-    good, no_spelling, broken = packed(Term(0, 1, 0, 0, 10 ** 9)), packed(Term(0, 1, 0, 0, 1)), bytes(9)
+    good, no_spelling, broken = packed(NINE, term38(0, 1, 0, 0, 10 ** 9)), packed(NINE, term38(0, 1, 0, 0, 1)), bytes(9)
     assert read_text(ROW + b"x", 0)[:2] == (16, 2)
     for room in (0, ROOMY):
-        assert write_text(b"", room) == write_text((no_spelling + broken)[:-1], room) == (1, 0, b"")
-        assert write_text(no_spelling * 65, room) == write_text(broken * 65, room) == (1, 0, b"")
-        assert write_text(no_spelling + broken + broken, room) == (2, 2, b"")
-        assert write_text(good + no_spelling + no_spelling, room) == (17, 2, b"")
+        assert write_text(b"", room) == write_text((no_spelling + broken)[:-1], room) == (1, 0, 0, b"")
+        assert write_text(no_spelling * 65, room) == write_text(broken * 65, room) == (1, 0, 0, b"")
+        assert write_text(no_spelling + broken + broken, room) == (2, 2, 0, b"")
+        assert write_text(good + no_spelling + no_spelling, room) == (17, 2, 0, b"")
     random = randoms.Random(35)
-    assert write_text(no_spelling + packed(broken_term(random)), 0) == (2, 2, b"")
+    assert write_text(no_spelling + packed(NINE, broken_term(random)), 0) == (2, 2, 0, b"")
 
 
 def test_choices():
@@ -230,7 +232,7 @@ def test_the_program():
                 (["read"], ROW * 64 + b"x", b"refused, 16, line 65 is more than a table has\n"),
                 (["write"], b"", b"refused, 1, a table has 9 to 576 bytes, in nines\n"),
                 (["write"], ROW_38 + bytes(9), b"refused, 2, term 2 breaks a rule\n"),
-                (["write"], ROW_38 * 63 + packed(Term(0, 1, 0, 0, 1)), b"refused, 17, term 64 has no spelling\n"))
+                (["write"], ROW_38 * 63 + packed(NINE, term38(0, 1, 0, 0, 1)), b"refused, 17, term 64 has no spelling\n"))
     for words, stdin, line in refusals:
         assert tables(words, stdin) == (b"", line)
     usage = b"usage: tables read <text >terms, or tables write <terms >text\n"

@@ -1,0 +1,21 @@
+/* Answers the records of tests/gen_convert.py through the C entries that convert tables: one line of words for each.
+ * Assumes what tests/blocks.h does. */
+#include "blocks.h"
+#include "waterbench.h"
+
+static uint64_t call(uint64_t function, const uint8_t *lent, size_t length, uint8_t *out, size_t room, uint64_t choice)
+{
+    switch (function) {
+    case 0:
+        return wb_lengthen(lent, length, out, room, choice);
+    case 1:
+        return wb_shorten(lent, length, out, room, choice);
+    }
+    broken("no such function");
+    return 0;
+}
+
+int main(void)
+{
+    return answer_blocks(call);
+}
