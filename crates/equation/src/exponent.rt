@@ -59,9 +59,9 @@ pub fn factor_e(v: u64, c: u64, g: Bracket) -> Bracket
     ensures { λ r. ⌜ r ≡ factorE (suc v) c g ⌝ }
 {
     if 0 < c {
-        let most = sheet::whole(v, 128);
+        let limit = sheet::whole(v, 128);
         let hi = g.hi;
-        if sheet::at_most(hi, most) {
+        if sheet::at_most(hi, limit) {
             series::expneg(v, g)
         } else {
             clipped(v, g)
