@@ -1,12 +1,13 @@
-"""The rows of 01's "Both sides of the line", and those of 02 b, d and f, through the three public functions for
-nine-byte tables, as the program both_sides writes them.
+"""The rows of 01's "Both sides of the line", and those of 02 b, d, f and h, through the three public functions, as the
+program both_sides writes them.
 
     python3 -m second.tests.test_both_sides >crates/both_sides/stdout
 
 makes that program's stored output, from this file and the second program alone; the test holds the file to it, and rt
 holds the program to the file.  A line is the width, who is asked, the case's label (with the bits of the f64 that it is
-about), the number, the place, and the ends' bits.  All groups come at 32 bits, then all of them at 53, then the wrong
-widths.  The order of the groups:
+about), the number, the place, and the ends' bits; behind the width stands the kind where it is not 38.  All groups come
+at 32 bits, then all of them at 53, then the wrong widths, then the groups of kind 58 at 32 bits and at 53, and the wrong
+kinds.  The order of the groups:
 
     temperatures            state sheet, density check, pair check
     densities               state sheet, density check, pair check as liquid, as vapour
@@ -27,6 +28,9 @@ and at each wrong width
     a sound table           state sheet, density check, pair check
     an empty table, T NaN   the same three
 
+and for kind 58 temperatures, densities (without the pair check), tables by length, terms, the ceiling and targets as
+above, and at each wrong kind the same as at a wrong width.
+
 Each row also says which numbers the documents allow it, so that the second program can't be wrong alone.  Assumes
 nothing.
 """
@@ -34,9 +38,9 @@ nothing.
 import os
 
 from second import f64
-from second.kind import NINE
-from second.tests.samples import INFINITY, NAN, NEGATIVE, ROOT, WRONG_WIDTHS, above, odd_table, under
-from second.term import packed, term38
+from second.kind import NINE, TWELVE
+from second.tests.samples import INFINITY, NAN, NEGATIVE, ROOT, WRONG_KINDS, WRONG_WIDTHS, above, odd_table, under
+from second.term import Term, packed, term38
 from second.verdict import WIDTHS, density_check, pair_check, state_sheet
 
 W = f64.word
@@ -245,14 +249,108 @@ def wrong_width(width):
     yield from three(width, "empty table, T NaN", b"", (19,), t=NAN)
 
 
+# ---- kind 58 (02 h)
+
+EASIER = packed(TWELVE, Term(0, 0, 1, 0, 0, 10 ** 13))
+HIGH = W(25e9)
+CEILING_58 = bytes.fromhex("00002004c73a9eccf8a6d800")  # at 301 K and 2576 kg/m3: up to 25 x 10^9 at 32 bits
+OVER_58 = bytes.fromhex("00002004c73a9eccf8a6dc00")  # there the next sheet number
+FINE_CEILING_58 = bytes.fromhex("00002004c73a9ed44b04f400")  # the same two for 53 bits
+FINE_OVER_58 = bytes.fromhex("00002004c73a9ed44b04f800")
+
+
+def of_kind(width, kind, who, label, answer, allowed):
+    return line(width, "%d %s" % (kind, who), label, answer, allowed)
+
+
+def all_three(width, kind, label, table, allowed, t=T, rho=RHO, target=0, liquid=LIQUID, vapour=VAPOUR, pair=None):
+    yield of_kind(width, kind, "state sheet", label, state_sheet(width, kind, table, t, rho), allowed)
+    yield of_kind(width, kind, "density check", label, density_check(width, kind, table, t, rho, target, WIDE), allowed)
+    yield of_kind(width, kind, "pair check", label, pair_check(width, kind, table, t, liquid, vapour, WIDE, WIDE), pair or allowed)
+
+
+def temperatures_58(width):
+    for label, t, number, pair in (
+            ("T 252", W(252.0), 0, 3),
+            ("T next under 252", under(W(252.0)), 3, 3),
+            ("T next under 273.16", under(W(273.16)), 0, 3),
+            ("T 273.16", W(273.16), 0, 0),
+            ("T 1273", W(1273.0), 0, 0),
+            ("T next above 1273", above(W(1273.0)), 3, 3),
+            ("T NaN", NAN, 3, 3)):
+        yield from all_three(width, 58, valued(label, t), EASIER, (number,), t=t, pair=(pair,))
+
+
+def densities_58(width):
+    for label, rho, allowed in (
+            ("density 1/1024", W(2.0 ** -10), ANSWERED),
+            ("density next under 1/1024", under(W(2.0 ** -10)), (4,)),
+            ("density 2576", W(2576.0), ANSWERED),
+            ("density next above 2576", above(W(2576.0)), (4,)),
+            ("density NaN", NAN, (4,))):
+        label = valued(label, rho)
+        yield of_kind(width, 58, "state sheet", label, state_sheet(width, 58, EASIER, T, rho), allowed)
+        yield of_kind(width, 58, "density check", label, density_check(width, 58, EASIER, T, rho, 0, WIDE), allowed)
+
+
+def tables_58(width):
+    for size, number in ((12, 0), (768, 0), (0, 1), (9, 1), (11, 1), (13, 1), (780, 1)):
+        yield from all_three(width, 58, "table of %d bytes" % size, (EASIER * 65)[:size], (number,))
+
+
+def terms_58(width):
+    least = Term(1, 100, 1, 0, 0, 1)
+    for label, term, allowed in (
+            ("t 63", least._replace(t=63), ANSWERED),
+            ("magnitude 10^17 + 1", least._replace(magnitude=10 ** 17 + 1), (2,)),
+            ("d 0", least._replace(d=0), (2,)),
+            ("factor 0 with c 1", least._replace(factor=0), (2,)),
+            ("factor 100 with c 0", least._replace(c=0), (2,)),
+            ("first spare bit", least._replace(spare=512), (2,)),
+            ("last spare bit", least._replace(spare=1), (2,))):
+        yield from all_three(width, 58, label, packed(TWELVE, term), allowed)
+
+
+def ceilings_58(width):
+    state = dict(t=W(301.0), rho=W(2576.0), target=HIGH, liquid=W(2576.0), vapour=RHO)
+    meets, passes = ((0,), (9,)), ((8,), (8,))  # of the state sheet and the density check; of the pair check
+    for label, table, coarse, fine in (
+            ("up to 25 x 10^9 at 32", CEILING_58, meets, meets),
+            ("up to 25 x 10^9 + 16 at 32", OVER_58, passes, meets),
+            ("up to 25 x 10^9 at 53", FINE_CEILING_58, passes, meets),
+            ("up to 25 x 10^9 + 2^-18 at 53", FINE_OVER_58, passes, passes)):
+        allowed, pair = coarse if width == 32 else fine
+        yield from all_three(width, 58, label, table, allowed, **state, pair=pair)
+
+
+def targets_58(width):
+    for label, target, allowed in (
+            ("target next above 10^9", above(W(1e9)), (9,)),
+            ("target 25 x 10^9", HIGH, (9,)),
+            ("target next above 25 x 10^9", above(HIGH), (5,))):
+        answer = density_check(width, 58, EASIER, T, RHO, target, WIDE)
+        yield of_kind(width, 58, "density check", valued(label, target), answer, allowed)
+
+
+def wrong_kind(width, kind):
+    """29 comes right after 19, whatever else is wrong."""
+    yield from all_three(width, kind, "sound table", EASY, (29,))
+    yield from all_three(width, kind, "empty table, T NaN", b"", (29,), t=NAN)
+
+
+GROUPS_58 = (temperatures_58, densities_58, tables_58, terms_58, ceilings_58, targets_58)
+
 GROUPS = (temperatures, densities, tables, terms, ceilings, empty, targets, tolerances, sides, least_gaps, stiffnesses,
           vapours, odd)
 
 
 def text():
-    """The rows of every group at each width, and then the wrong widths'."""
-    asked = [(group, width) for width in WIDTHS for group in GROUPS] + [(wrong_width, width) for width in WRONG_WIDTHS]
-    return "".join(row + "\n" for group, width in asked for row in group(width))
+    """The rows of every group at each width, then the wrong widths', then those of kind 58 and the wrong kinds'."""
+    asked = [(group, (width,)) for width in WIDTHS for group in GROUPS]
+    asked += [(wrong_width, (width,)) for width in WRONG_WIDTHS]
+    asked += [(group, (width,)) for width in WIDTHS for group in GROUPS_58]
+    asked += [(wrong_kind, (width, kind)) for width in WIDTHS for kind in WRONG_KINDS]
+    return "".join(row + "\n" for group, inputs in asked for row in group(*inputs))
 
 
 def test_stored_output():

@@ -27,12 +27,30 @@ fn front(width: u64, who: &[u8]) {
     io::write_all(STDOUT_FILENO, who);
 }
 
+// The same for a kind other than 38, which stands behind the width.
+pub fn named_of(width: u64, kind: u64, who: &[u8], label: &[u8]) {
+    io::print_decimal(STDOUT_FILENO, width);
+    io::write_all(STDOUT_FILENO, b" ");
+    named(kind, who, label);
+}
+
+pub fn valued_of(width: u64, kind: u64, who: &[u8], label: &[u8], bits: u64) {
+    io::print_decimal(STDOUT_FILENO, width);
+    io::write_all(STDOUT_FILENO, b" ");
+    valued(kind, who, label, bits);
+}
+
+// A table of kind 38.
 pub fn sheet(width: u64, table: &[u8], temperature: f64, density: f64) {
+    sheet_of(width, 38, table, temperature, density);
+}
+
+pub fn sheet_of(width: u64, kind: u64, table: &[u8], temperature: f64, density: f64) {
     let state = State {
         temperature,
         density,
     };
-    let values = reading::of_sheet(verdict::state_sheet(width, 38, table, state));
+    let values = reading::of_sheet(verdict::state_sheet(width, kind, table, state));
     whole(values[0]);
     whole(values[1]);
     words::next(values[2]);
@@ -50,16 +68,50 @@ pub fn density(
     target: f64,
     tolerance: f64,
 ) {
+    density_of(width, 38, table, temperature, density, target, tolerance);
+}
+
+pub fn density_of(
+    width: u64,
+    kind: u64,
+    table: &[u8],
+    temperature: f64,
+    density: f64,
+    target: f64,
+    tolerance: f64,
+) {
     let state = State {
         temperature,
         density,
     };
-    let answer = verdict::density_check(width, 38, table, state, target, tolerance);
+    let answer = verdict::density_check(width, kind, table, state, target, tolerance);
     check(reading::of_check(answer));
 }
 
 pub fn pair(
     width: u64,
+    table: &[u8],
+    temperature: f64,
+    liquid: f64,
+    vapour: f64,
+    pressure_tolerance: f64,
+    gibbs_tolerance: f64,
+) {
+    pair_of(
+        width,
+        38,
+        table,
+        temperature,
+        liquid,
+        vapour,
+        pressure_tolerance,
+        gibbs_tolerance,
+    );
+}
+
+pub fn pair_of(
+    width: u64,
+    kind: u64,
     table: &[u8],
     temperature: f64,
     liquid: f64,
@@ -73,7 +125,7 @@ pub fn pair(
     };
     let answer = verdict::pair_check(
         width,
-        38,
+        kind,
         table,
         state,
         vapour,

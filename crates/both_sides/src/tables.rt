@@ -1,9 +1,11 @@
 // Tables of every length about the line, terms that just keep or just break a rule, and the ceiling of pressure.
 use crate::EASY;
 use crate::asked;
+ghost use Prim.Native.Nat.{_<_};
+ghost use lib.ListN.{length};
 
 pub fn lengths(width: u64) {
-    let bytes = filled();
+    let bytes = filled(&EASY);
     table(width, b"table of 9 bytes", &bytes[0..9]);
     table(width, b"table of 576 bytes", &bytes[0..576]);
     table(width, b"table of 0 bytes", &bytes[0..0]);
@@ -13,12 +15,14 @@ pub fn lengths(width: u64) {
     table(width, b"table of 585 bytes", &bytes[0..585]);
 }
 
-// The easy term, 65 times.
-fn filled() -> [u8; 585] {
-    let mut bytes = [0u8; 585];
+// A term's bytes over and over.
+pub fn filled(term: &[u8]) -> [u8; 780]
+    requires { ⌜ 0 < length (now term) ⌝ }
+{
+    let mut bytes = [0u8; 780];
     let mut i: usize = 0;
-    while i < 585 {
-        bytes[i] = EASY[i % 9];
+    while i < 780 {
+        bytes[i] = term[i % term.len()];
         i += 1;
     }
     bytes

@@ -7,16 +7,19 @@ use Rattle.both_sides.proofs.tables.filled.Statement.{statement}
 use Rattle.both_sides.proofs.tables.filled.Tie as tie
 
 abbrev Inv-loop : tie.InvT-loop
-Inv-loop bytes₀ i₀ bytes i = 585 ≡ length bytes
+Inv-loop term bytes₀ i₀ bytes i = 780 ≡ length bytes
 
 abbrev μ-loop : tie.MeasureT-loop
-μ-loop bytes₀ i₀ bytes i = 585 - i
+μ-loop term bytes₀ i₀ bytes i = 780 - i
 
 loop-holds : tie.Need-loop-holds Inv-loop μ-loop
 loop-holds c = search needs
 
-array-read-bytes : tie.Need-array-read-bytes Inv-loop μ-loop
-array-read-bytes c = search needs
+rem-bytes : tie.Need-rem-bytes Inv-loop μ-loop
+rem-bytes c = search needs
+
+shared-slice-read-bytes : tie.Need-shared-slice-read-bytes Inv-loop μ-loop
+shared-slice-read-bytes c = search needs
 
 array-write-bytes : tie.Need-array-write-bytes Inv-loop μ-loop
 array-write-bytes c = search needs
@@ -40,7 +43,8 @@ filled-spec =
     Inv-loop
     μ-loop
     loop-holds
-    array-read-bytes
+    rem-bytes
+    shared-slice-read-bytes
     array-write-bytes
     add-i
     loop-less
