@@ -12,8 +12,8 @@ use Rattle.kind.specs.Kind.{termBytes}
 use Rattle.term.specs.Bounds.{Bounds, Plain, Whole}
 use Rattle.term.specs.First.{SoundBelow, First}
 use Rattle.term.specs.Packed.{termAt, spareAt, countTerms}
-use Rattle.term.specs.Sound.{soundTerm, soundAt, soundLength, soundTable, firstBroken, placeAnswer, tableAnswer}
-use Rattle.term.proofs.Rules.{both, place-some, termAt-bounds, termAt-old, soundLength-whole, whole-widest, whole-few, within-bytes}
+use Rattle.term.specs.Sound.{soundSize, matched, soundTerm, soundAt, soundLength, soundTable, firstBroken, placeAnswer, tableAnswer}
+use Rattle.term.proofs.Rules.{both, place-some, termAt-bounds, termAt-size, termAt-matched, termAt-old, soundLength-whole, whole-widest, whole-some, whole-few, within-bytes}
 use Rattle.term.proofs.First.{place-sound, place-first, first-place}
 
 -- the three ways of the rule, over the test of the length and the place
@@ -76,14 +76,28 @@ module _ (kind : ℕ) (table : List ℕ) where
   unfolding soundTable
   sound-below h = place-sound kind table (eqb-true (firstBroken kind table) 0 (both (soundLength kind (length table)) (eqb (firstBroken kind table) 0) h .1))
 
-  pub sound-bounds : soundTable kind table ≡ true → (k : ℕ) → k < countTerms kind table → Bounds (termAt kind table k)
+  -- its terms keep the rules of their fields
+  fields-sound : soundTable kind table ≡ true → (k : ℕ) → k < countTerms kind table → soundTerm kind (termAt kind table k) ≡ true
   unfolding soundAt
-  sound-bounds h k l = termAt-bounds kind table k (both (soundTerm kind (termAt kind table k)) _ (sound-below h k l) .0)
+  fields-sound h k l = both (soundTerm kind (termAt kind table k)) _ (sound-below h k l) .0
+
+  pub sound-bounds : soundTable kind table ≡ true → (k : ℕ) → k < countTerms kind table → Bounds (termAt kind table k)
+  sound-bounds h k l = termAt-bounds kind table k (fields-sound h k l)
+
+  -- those that both kinds share; and of either kind a factor stands exactly where there is an exponential
+  pub sound-size : soundTable kind table ≡ true → (k : ℕ) → k < countTerms kind table → soundSize (termAt kind table k) ≡ true
+  sound-size h k l = termAt-size kind table k (fields-sound h k l)
+
+  pub sound-matched : soundTable kind table ≡ true → (k : ℕ) → k < countTerms kind table → matched (termAt kind table k) ≡ true
+  sound-matched h k l = termAt-matched kind table k (fields-sound h k l)
 
   -- no spare bit of a sound table is set
   pub sound-spare : soundTable kind table ≡ true → (k : ℕ) → k < countTerms kind table → spareAt kind table k ≡ 0
   unfolding soundAt
   sound-spare h k l = eqb-true (spareAt kind table k) 0 (both (soundTerm kind (termAt kind table k)) _ (sound-below h k l) .1)
+
+  pub sound-some : soundTable kind table ≡ true → 0 < countTerms kind table
+  sound-some h = whole-some (sound-whole h)
 
   pub sound-few : soundTable kind table ≡ true → countTerms kind table ≤ 64
   sound-few h = whole-few (sound-whole h)
@@ -94,5 +108,4 @@ module _ (kind : ℕ) (table : List ℕ) where
 
 -- what a nine-byte term keeps besides
 pub sound-plain : (table : List ℕ) → soundTable 38 table ≡ true → (k : ℕ) → k < countTerms 38 table → Plain (termAt 38 table k)
-unfolding soundAt
-sound-plain table h k l = termAt-old 38 table k (both (soundTerm 38 (termAt 38 table k)) _ (sound-below 38 table h k l) .0) (λ e. omega arith)
+sound-plain table h k l = termAt-old 38 table k (fields-sound 38 table h k l) (λ e. omega arith)

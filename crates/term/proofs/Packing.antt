@@ -13,7 +13,7 @@ use Rattle.term.specs.Pieces.{Piece, wide, joined, Fit}
 use Rattle.term.specs.Bits.{eight, number, field, Bytes}
 use Rattle.term.specs.Pack.{bytesOf, pieces, pack}
 use Rattle.term.specs.Long.{longFrom, spareBits, longPieces, packLong}
-use Rattle.term.specs.Packed.{plainFactor, plainFrom}
+use Rattle.term.specs.Packed.{plainFrom}
 use Rattle.term.specs.Bounds.{WithinFields, WithinLong}
 use Rattle.term.proofs.Joined.{wide-append, joined-below, joined-cut}
 use Rattle.term.proofs.Fields.{wide-eight}

@@ -1,10 +1,10 @@
 -- What a sound term, a sound length and a sound table give: plain bounds, and the place of the first broken term as the first place.
 -- Assumes nothing.
 use Prim.Native.Nat.{ℕ, zero, suc, _+_, _*_, _/_, _%_, _^_, _≤_, _<_}
-use mathlib.Core.Path.{_≡_, refl, sym, _∙_}
+use mathlib.Core.Path.{_≡_, refl, _∙_}
 use mathlib.Core.List.{List}
 use mathlib.Core.Bool.{Bool, true, false, cond, _&&_, false≢true}
-use borrow.Author.Tests.{ltb-true, leb-true, eqb-true, eqb-false, eq-eqb, ne-eqb}
+use borrow.Author.Tests.{ltb-true, leb-true, eqb-true, eqb-false, lt-ltb, eq-eqb, ne-eqb}
 use native.Mathlib.Omega.{arith}
 use lib.Dec.{leb, ltb, eqb}
 use Rattle.kind.specs.Kind.{byKind, termBytes}
@@ -125,6 +125,14 @@ pub matched-none : (term : Term) → matched term ≡ true → term .c ≡ 0 →
 unfolding matched
 matched-none term h e = eqb-true (term .factor) 0 (rw (eq-eqb (term .c) 0 e) at h)
 
+plain-matched : (term : Term) → term .factor ≡ plainFactor (term .c) → matched term ≡ true
+unfolding matched
+plain-matched term f = go (eqb (term .c) 0) refl
+  where
+    go : (b : Bool) → eqb (term .c) 0 ≡ b → matched term ≡ true
+    go true e = rw e (eq-eqb (term .factor) 0 (f ∙ factor-none (term .c) (eqb-true (term .c) 0 e)))
+    go false e = rw e (lt-ltb 0 (term .factor) (omega (arith, factor-whole (term .c) (eqb-false (term .c) 0 e))))
+
 -- the rules of both kinds
 size-rules : (term : Term) → soundSize term ≡ true → (0 < term .d) × (0 < term .magnitude) × (term .magnitude ≤ 10 ^ 17)
 unfolding soundSize
@@ -144,21 +152,24 @@ plain-rule kind term n h = leb-true (term .t) 24 (rw (ne-eqb kind 58 n) at (both
 
 -- a sound term at a place of a table
 module _ (kind : ℕ) (table : List ℕ) (k : ℕ) (h : soundTerm kind (termAt kind table k) ≡ true) where
-  factor-above : 0 < termAt kind table k .c → 0 < termAt kind table k .factor
-  factor-above l = go (eqb kind 58) refl
+  pub termAt-matched : matched (termAt kind table k) ≡ true
+  termAt-matched = go (eqb kind 58) refl
     where
-      go : (b : Bool) → eqb kind 58 ≡ b → 0 < termAt kind table k .factor
-      go true e = matched-above (termAt kind table k) (long-rule kind (termAt kind table k) (eqb-true kind 58 e) h) l
-      go false e = omega (arith, termAt-plain kind (eqb-false kind 58 e) table k .factor-plain, factor-some (termAt kind table k .c) l)
+      go : (b : Bool) → eqb kind 58 ≡ b → matched (termAt kind table k) ≡ true
+      go true e = long-rule kind (termAt kind table k) (eqb-true kind 58 e) h
+      go false e = plain-matched (termAt kind table k) (termAt-plain kind (eqb-false kind 58 e) table k .factor-plain)
+
+  pub termAt-size : soundSize (termAt kind table k) ≡ true
+  unfolding soundTerm
+  termAt-size = both (soundSize (termAt kind table k)) _ h .0
 
   pub termAt-bounds : Bounds (termAt kind table k)
-  unfolding soundTerm
   termAt-bounds =
       let fields = termAt-fields kind table k in
-      let size = size-rules (termAt kind table k) (both (soundSize (termAt kind table k)) _ h .0) in
+      let size = size-rules (termAt kind table k) termAt-size in
       record {
         c-most = omega (arith, fields .c-below);
-        factor-above = factor-above;
+        factor-above = matched-above (termAt kind table k) termAt-matched;
         factor-most = omega (arith, fields .factor-below);
         d-above = size .0;
         d-most = omega (arith, fields .d-below);
@@ -205,6 +216,9 @@ soundLength-whole kind bytes h =
 -- 768 bytes at most, and 64 terms
 pub whole-widest : {kind bytes : ℕ} → Whole kind bytes → bytes ≤ 768
 whole-widest {kind} {bytes} w = omega (arith, w .most, most-bytes kind, few-bytes kind)
+
+pub whole-some : {kind bytes : ℕ} → Whole kind bytes → 0 < bytes / termBytes kind
+whole-some {kind} {bytes} w = by-either kind (λ one. one ≤ bytes → 0 < bytes / one) (λ h. omega arith) (λ h. omega arith) (w .some)
 
 pub whole-few : {kind bytes : ℕ} → Whole kind bytes → bytes / termBytes kind ≤ 64
 whole-few {kind} {bytes} w = by-either kind (λ one. bytes ≤ 64 * one → bytes / one ≤ 64) (λ h. omega arith) (λ h. omega arith) (omega (arith, w .most, most-bytes kind))

@@ -1,11 +1,11 @@
 -- Sound terms, packed, are a sound table of their kind. Assumes nothing.
-use Prim.Native.Nat.{ℕ, suc, _+_, _*_, _%_, _≤_, _<_}
-use mathlib.Core.Path.{_≡_, refl, _∙_}
+use Prim.Native.Nat.{ℕ, _+_, _*_, _%_, _≤_, _<_}
+use mathlib.Core.Path.{_≡_, refl}
 use mathlib.Core.Bool.{true}
 use mathlib.Core.List.{List, [], _∷_, _++_, append-assoc}
 use native.Mathlib.Omega.{arith}
 use borrow.Author.Tests.{le-leb, eq-eqb}
-use lib.ListN.{length, length-append}
+use lib.ListN.{length}
 use Rattle.kind.specs.Kind.{byKind, termBytes}
 use Rattle.kind.proofs.Either.{by-either}
 use Rattle.term.specs.declared.Term.{Term}

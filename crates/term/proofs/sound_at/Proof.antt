@@ -1,5 +1,5 @@
 -- `term::sound_at` meets its contract: the rule of the fields that were read, and no spare bit. Assumes nothing.
-use mathlib.Core.Path.{_≡_, sym, ap, _∙_}
+use mathlib.Core.Path.{sym, ap, _∙_}
 use Rattle.term.specs.Sound.{soundTerm, soundAt}
 use borrow.Author.Needs.{needs}
 use Rattle.term.proofs.sound_at.Statement.{statement}

@@ -1,6 +1,5 @@
 -- `term::packer::put_term` meets its contract. Assumes nothing.
 use native.Mathlib.Omega.{arith}
-use mathlib.Core.Path.{sym, ap, _∙_}
 use borrow.Author.Needs.{needs}
 use Rattle.lent.proofs.Joined.{put-same, put-then}
 use Rattle.term.proofs.Bytes.{pack-head}
