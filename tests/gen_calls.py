@@ -115,8 +115,8 @@ def both_sides(*limits):
 
 
 def fixed_58():
-    """02 h: both sides of the longer record's limits, its ceiling, its terms' fields, lengths, and exponentials that are
-    cut off."""
+    """02 h: both sides of the longer record's limits, its ceiling, its terms' fields, lengths, and exponentials that
+    are cut off."""
     easy = lengthen(EASY, 12).output
     for ceiling in CEILINGS_58.values():
         for table in ceiling.tables():

@@ -40,8 +40,8 @@ def one_by_one(addends):
 
 
 def sums(T, rho, table):
-    """S0, S1, S2.  Where terms have factors they are summed without rounding: Table 4 has two terms for each of its last
-    four rows, and in thin cold vapour these are large and nearly cancel."""
+    """S0, S1, S2.  Where terms have factors they are summed without rounding: Table 4 has two terms for each of its
+    last four rows, and in thin cold vapour these are large and nearly cancel."""
     delta, tau = rho / RHOC, TC / T
     addends = []
     for c, factor, d, t, a in table:

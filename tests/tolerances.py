@@ -1,13 +1,13 @@
 #!/usr/bin/env python3
-"""Makes the tables of docs/TOLERANCES.md and the pictures docs/tolerances.svg and docs/tolerances58.svg: how wide the gaps'
-brackets are, at each count of bits, for Table 5 and for Table 4.
+"""Makes the tables of docs/TOLERANCES.md and the pictures docs/tolerances.svg and docs/tolerances58.svg: how wide the
+gaps' brackets are, at each count of bits, for Table 5 and for Table 4.
 
   tests/tolerances.py               by the second program
   tests/tolerances.py COMMAND...    by another program that answers proposals, such as: tests/run bench
 
-The width and the kind are the command's last words.  At each temperature the rough search's pair is proposed twice, with
-no tolerance at all, and with none for the Gibbs gap only: the refusals 9 and 10 carry the brackets of the two gaps.  By
-Table 4 at 32 bits cold pairs are refused with 21 before that, and have none.
+The width and the kind are the command's last words.  At each temperature the rough search's pair is proposed twice,
+with no tolerance at all, and with none for the Gibbs gap only: the refusals 9 and 10 carry the brackets of the two gaps.
+By Table 4 at 32 bits cold pairs are refused with 21 before that, and have none.
 Assumes data/terms.bin, data/terms58.bin and Python 3.9.
 """
 
@@ -45,8 +45,8 @@ def proposals(T, kind):
 
 
 def answered(command, bits, kind, temperatures):
-    """The brackets of pressure gap and Gibbs gap at each temperature, as pairs of floats; None twice where 21 is all that
-    there is."""
+    """The brackets of pressure gap and Gibbs gap at each temperature, as pairs of floats; None twice where 21 is all
+    that there is."""
     with open(os.path.join(ROOT, "data", rough_search.FILES[kind]), "rb") as file:
         table = file.read()
     asked = b"".join(proposals(T, kind) for T in temperatures)
