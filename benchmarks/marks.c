@@ -8,7 +8,7 @@
 #include "measure.h"
 #include "mpfr_equation.h"
 
-enum { BIAS = 262144, OPERANDS = 512, DENSITIES = 16, ARGUMENTS = 3 * DENSITIES, ROWS = 38, ROW = 9, PAIRS = 1000 };
+enum { BIAS = 262144, OPERANDS = 512, DENSITIES = 16, ARGUMENTS = 3 * DENSITIES, KIND = 38, ROWS = 38, ROW = 9, PAIRS = 1000 };
 
 /* A number's digits and place, which both sides add up over all results. */
 static uint64_t digits_and_place(mpfr_srcptr x)
@@ -182,14 +182,14 @@ static packed of_terms(size_t count)
 static uint64_t library_state(const void *argument)
 {
     const packed *t = argument;
-    return wb_state(peer_bits, t->bytes, t->length, STEAM_T, STEAM_RHO, 2);
+    return wb_state(peer_bits, KIND, t->bytes, t->length, STEAM_T, STEAM_RHO, 2);
 }
 
 static uint64_t peer_state_bits(const void *argument)
 {
     const packed *t = argument;
     peer_state_ends r;
-    peer_state(&r, t->bytes, t->length, STEAM_T, STEAM_RHO);
+    peer_state(&r, KIND, t->bytes, t->length, STEAM_T, STEAM_RHO);
     return bits_of(r.pressure[0]);
 }
 
@@ -218,7 +218,7 @@ static uint64_t library_pairs(const void *argument)
     uint64_t total = 0;
     for (size_t i = 0; i < *(const size_t *)argument; i++) {
         const double *p = pairs[i];
-        total += wb_pair(peer_bits, table5.bytes, table5.length, p[0], p[1], p[2], 1e6, 1e6, 2);
+        total += wb_pair(peer_bits, KIND, table5.bytes, table5.length, p[0], p[1], p[2], 1e6, 1e6, 2);
     }
     return total;
 }
@@ -229,7 +229,7 @@ static uint64_t peer_pairs(const void *argument)
     for (size_t i = 0; i < *(const size_t *)argument; i++) {
         const double *p = pairs[i];
         peer_pair_ends r;
-        peer_pair(&r, table5.bytes, table5.length, p[0], p[1], p[2]);
+        peer_pair(&r, KIND, table5.bytes, table5.length, p[0], p[1], p[2]);
         total += bits_of(r.vapour_pressure[0]);
     }
     return total;

@@ -15,8 +15,9 @@ uint64_t marks_single(uint64_t width, uint64_t operation, uint64_t up, const uin
 /* The exponential of minus x, for brackets from 2^-57 to 64. */
 uint64_t marks_exponential(uint64_t width, const uint64_t *list, size_t length);
 
-__attribute__((weak)) uint64_t wb_state(uint64_t width, const uint8_t *table, size_t length, double t, double rho, uint64_t choice);
-__attribute__((weak)) uint64_t wb_pair(uint64_t width, const uint8_t *table, size_t length, double t, double liquid, double vapour,
-                                       double pressure_tolerance, double gibbs_tolerance, uint64_t choice);
+__attribute__((weak)) uint64_t wb_state(uint64_t width, uint64_t kind, const uint8_t *table, size_t length, double t, double rho,
+                                        uint64_t choice);
+__attribute__((weak)) uint64_t wb_pair(uint64_t width, uint64_t kind, const uint8_t *table, size_t length, double t, double liquid,
+                                       double vapour, double pressure_tolerance, double gibbs_tolerance, uint64_t choice);
 
 #endif

@@ -2,7 +2,7 @@
 #include "mpfr_equation.h"
 
 typedef struct {
-    unsigned c, d, t;
+    unsigned c, factor, d, t; /* the factor in hundredths */
     int negative;
     uint64_t magnitude;
 } term;
@@ -12,17 +12,47 @@ typedef struct {
 } sums;
 
 /* Nine bytes, most significant bit first: c 2, d 4, t 5, sign 1, magnitude 60. */
-static term unpacked(const uint8_t *nine)
+static term of_nine(const uint8_t *nine)
 {
     unsigned head = nine[0] << 4 | nine[1] >> 4;
     uint64_t magnitude = nine[1] & 15;
     for (int i = 2; i < 9; i++)
         magnitude = magnitude << 8 | nine[i];
-    return (term){head >> 10, head >> 6 & 15, head >> 1 & 31, head & 1, magnitude};
+    return (term){head >> 10, head >> 10 ? 100 : 0, head >> 6 & 15, head >> 1 & 31, head & 1, magnitude};
+}
+
+/* Twelve bytes: c 4, factor 10, d 5, t 6, sign 1, magnitude 60, 10 zeros. */
+static term of_twelve(const uint8_t *twelve)
+{
+    uint64_t front = 0, back = 0;
+    for (int i = 0; i < 8; i++)
+        front = front << 8 | twelve[i];
+    for (int i = 8; i < 12; i++)
+        back = back << 8 | twelve[i];
+    unsigned head = front >> 38;
+    uint64_t magnitude = (front & 0x3fffffffff) << 22 | back >> 10;
+    return (term){head >> 22, head >> 12 & 1023, head >> 7 & 31, head >> 1 & 63, head & 1, magnitude};
+}
+
+/* E: from 0 to the rule's upper end at the smaller of 128 and g's lower end, where g may be above 128. */
+static void exponential(bracket *r, const bracket *g)
+{
+    BRACKET(x);
+    if (mpfr_cmp_ui(g->hi, 128) <= 0) {
+        peer_exponential(r, g);
+        return;
+    }
+    peer_whole(&x, 128);
+    if (mpfr_cmp_ui(g->lo, 128) < 0) {
+        mpfr_set(x.lo, g->lo, MPFR_RNDN);
+        mpfr_set(x.hi, g->lo, MPFR_RNDN);
+    }
+    peer_exponential(r, &x);
+    mpfr_set_zero(r->lo, 1);
 }
 
 /* V = ((coefficient times delta^d) times tau^t) times E; without c there is no E. */
-static void value(bracket *r, const term *n, const bracket *delta, const bracket *tau, const bracket *power_c)
+static void value(bracket *r, const term *n, const bracket *delta, const bracket *tau, const bracket *g)
 {
     BRACKET(coefficient);
     BRACKET(power);
@@ -38,12 +68,12 @@ static void value(bracket *r, const term *n, const bracket *delta, const bracket
         return;
     }
     peer_product(&second, &first, &power);
-    peer_exponential(&e, power_c);
+    exponential(&e, g);
     peer_product(r, &second, &e);
 }
 
-/* w = d - (c times delta^c), and what V is multiplied with in S2: (w times (w - 1)) - (c^2 times delta^c). */
-static void weights(bracket *w, bracket *w2, const term *n, const bracket *power_c)
+/* w = d - (c times g), and what V is multiplied with in S2: (w times (w - 1)) - (c^2 times g). */
+static void weights(bracket *w, bracket *w2, const term *n, const bracket *g)
 {
     BRACKET(whole);
     BRACKET(d);
@@ -55,7 +85,7 @@ static void weights(bracket *w, bracket *w2, const term *n, const bracket *power
     } else {
         peer_whole(&d, n->d);
         peer_whole(&whole, n->c);
-        peer_product(&part, &whole, power_c);
+        peer_product(&part, &whole, g);
         peer_difference(w, &d, &part);
     }
     peer_whole(&whole, 1);
@@ -66,21 +96,35 @@ static void weights(bracket *w, bracket *w2, const term *n, const bracket *power
     }
     peer_product(&product, w, &less);
     peer_whole(&whole, n->c * n->c);
-    peer_product(&part, &whole, power_c);
+    peer_product(&part, &whole, g);
     peer_difference(w2, &product, &part);
+}
+
+/* g = factor times delta^c; the factor 1 is left out, for it changes nothing. */
+static void exponent(bracket *r, const term *n, const bracket *delta)
+{
+    BRACKET(power);
+    BRACKET(factor);
+    if (n->factor == 100) {
+        peer_power(r, delta, n->c);
+        return;
+    }
+    peer_power(&power, delta, n->c);
+    peer_ratio(&factor, 0, n->factor, 100);
+    peer_product(r, &factor, &power);
 }
 
 static void add_term(sums *s, const term *n, const bracket *delta, const bracket *tau)
 {
-    BRACKET(power_c);
+    BRACKET(g);
     BRACKET(v);
     BRACKET(w);
     BRACKET(w2);
     BRACKET(addend);
     if (n->c != 0)
-        peer_power(&power_c, delta, n->c);
-    value(&v, n, delta, tau, &power_c);
-    weights(&w, &w2, n, &power_c);
+        exponent(&g, n, delta);
+    value(&v, n, delta, tau, &g);
+    weights(&w, &w2, n, &g);
     peer_sum(&s->s0, &s->s0, &v);
     peer_product(&addend, &v, &w);
     peer_sum(&s->s1, &s->s1, &addend);
@@ -88,8 +132,9 @@ static void add_term(sums *s, const term *n, const bracket *delta, const bracket
     peer_sum(&s->s2, &s->s2, &addend);
 }
 
-static void sums_of(sums *s, const uint8_t *table, size_t length, double T, double rho)
+static void sums_of(sums *s, uint64_t kind, const uint8_t *table, size_t length, double T, double rho)
 {
+    size_t size = kind == 58 ? 12 : 9;
     BRACKET(given);
     BRACKET(constant);
     BRACKET(delta);
@@ -103,8 +148,8 @@ static void sums_of(sums *s, const uint8_t *table, size_t length, double T, doub
     peer_ready(&s->s0);
     peer_ready(&s->s1);
     peer_ready(&s->s2);
-    for (size_t at = 0; at < length; at += 9) {
-        term n = unpacked(table + at);
+    for (size_t at = 0; at < length; at += size) {
+        term n = kind == 58 ? of_twelve(table + at) : of_nine(table + at);
         add_term(s, &n, &delta, &tau);
     }
 }
@@ -176,25 +221,25 @@ static void hand_out(double *two, const bracket *b)
     two[1] = mpfr_zero_p(b->hi) ? 0.0 : mpfr_get_d(b->hi, MPFR_RNDN);
 }
 
-void peer_state(peer_state_ends *r, const uint8_t *table, size_t length, double T, double rho)
+void peer_state(peer_state_ends *r, uint64_t kind, const uint8_t *table, size_t length, double T, double rho)
 {
     sums s;
     BRACKET(b);
-    sums_of(&s, table, length, T, rho);
+    sums_of(&s, kind, table, length, T, rho);
     pressure(&b, &s, T, rho);
     hand_out(r->pressure, &b);
     stiffness(&b, &s, T);
     hand_out(r->stiffness, &b);
 }
 
-void peer_pair(peer_pair_ends *r, const uint8_t *table, size_t length, double T, double liquid, double vapour)
+void peer_pair(peer_pair_ends *r, uint64_t kind, const uint8_t *table, size_t length, double T, double liquid, double vapour)
 {
     sums heavy, light;
     BRACKET(a);
     BRACKET(b);
     BRACKET(gap);
-    sums_of(&heavy, table, length, T, liquid);
-    sums_of(&light, table, length, T, vapour);
+    sums_of(&heavy, kind, table, length, T, liquid);
+    sums_of(&light, kind, table, length, T, vapour);
     pressure(&a, &heavy, T, liquid);
     hand_out(r->liquid_pressure, &a);
     pressure(&b, &light, T, vapour);

@@ -7,7 +7,7 @@
 #include <string.h>
 #include "mpfr_equation.h"
 
-enum { BIAS = 262144, LONGEST = 576 };
+enum { BIAS = 262144, LONGEST = 768 };
 
 /* The next word of standard input, most significant byte first; 0 where the input ends. */
 static int next_word(uint64_t *word)
@@ -167,9 +167,10 @@ static void answer_series(void)
 static void answer_state(void)
 {
     peer_state_ends r;
+    uint64_t kind = word();
     size_t length = read_table();
     double T = f64(), rho = f64();
-    peer_state(&r, table, length, T, rho);
+    peer_state(&r, kind, table, length, T, rho);
     put_f64(r.pressure);
     put_f64(r.stiffness);
 }
@@ -177,9 +178,10 @@ static void answer_state(void)
 static void answer_pair(void)
 {
     peer_pair_ends r;
+    uint64_t kind = word();
     size_t length = read_table();
     double T = f64(), liquid = f64(), vapour = f64();
-    peer_pair(&r, table, length, T, liquid, vapour);
+    peer_pair(&r, kind, table, length, T, liquid, vapour);
     put_f64(r.liquid_pressure);
     put_f64(r.vapour_pressure);
     put_f64(r.pressure_gap);

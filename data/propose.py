@@ -1,8 +1,8 @@
 #!/usr/bin/env python3
 """Makes data/proposals.bin, a steriliser's proposals as the bench program reads them, with data/lines.txt, what it
-answers at 32 bits, and data/lines53.txt, what it answers at 53; the same three for the odd table, data/odd_proposals.bin,
-data/odd_lines.txt and data/odd_lines53.txt; and for the 58-row table data/proposals58.bin, data/lines58.txt and
-data/lines58_53.txt.
+answers at 32 bits, and data/lines53.txt, what it answers at 53; the same three for the odd table,
+data/odd_proposals.bin, data/odd_lines.txt and data/odd_lines53.txt; and for the 58-row table data/proposals58.bin,
+data/lines58.txt and data/lines58_53.txt.
 
 The temperatures are those of a steriliser's plugs, the densities the rough search's (tests/rough_search.py), rounded to
 eight digits so that every machine makes the same file.  The tolerances are a little above the brackets' widths in
@@ -12,9 +12,9 @@ second program, with data/terms.bin.
 The odd table (data/odd.txt) is sound and describes no water: from about 68 to 491 kg/m3 its pressures lie below zero,
 and two densities there are in balance and push back when squeezed.  Those two are what 02 f is about.
 
-For the 58-row table (data/terms58.bin) the tolerances are a little above the brackets' widths at 53 bits, and from 450 K
-on at 32 bits too: in thinner vapour the two terms that rows 55 to 58 are each made of nearly cancel, and at 32 bits no
-pair is accepted there.  The last seven are wrong on purpose.
+For the 58-row table (data/terms58.bin) the tolerances are above the brackets' widths at 53 bits, and from 450 K on at 32
+bits too: in thinner vapour the two terms that rows 55 to 58 are each made of nearly cancel (docs/TOLERANCES.md), and at
+32 bits these proposals are refused.  The last seven are wrong on purpose, one of them for 32 bits only.
 `python3 data/propose.py` writes the nine files.  Assumes nothing.
 """
 
@@ -67,8 +67,9 @@ def plugs():
 # K, with tolerances in Pa and J/kg, for the 58-row table
 COOL = ((273.16, 100.0, 3e4), (280.0, 100.0, 1.5e4), (300.0, 100.0, 2000.0), (320.0, 50.0, 200.0), (350.0, 50.0, 10.0),
         (373.15, 50.0, 1.0), (394.15, 50.0, 0.5), (420.0, 50.0, 0.5))  # at 53 bits alone
-HOT = ((450.0, 4000.0, 1500.0), (475.0, 1500.0, 200.0), (500.0, 1000.0, 30.0), (525.0, 1000.0, 6.0), (550.0, 500.0, 2.0),
-       (575.0, 500.0, 1.0), (600.0, 500.0, 1.0), (620.0, 500.0, 1.0), (630.0, 500.0, 1.0), (640.0, 500.0, 1.0))
+HOT = ((450.0, 4000.0, 1500.0), (475.0, 1500.0, 200.0), (500.0, 1000.0, 30.0), (525.0, 1000.0, 6.0),
+       (550.0, 500.0, 2.0), (575.0, 500.0, 1.0), (600.0, 500.0, 1.0), (620.0, 500.0, 1.0), (630.0, 500.0, 1.0),
+       (640.0, 500.0, 1.0))
 
 
 def rig_plugs():

@@ -8,9 +8,9 @@
  *
  * TERMS is a file of packed terms or, where its name ends in .txt, a table typed as text; PROPOSALS has five doubles for
  * each plug, most significant byte first: temperature, liquid, vapour, pressure tolerance, Gibbs tolerance, as the bench
- * program takes them.  WIDTH is 32, which stands where it is missing, or 53; KIND is 38, which stands where it is missing,
- * or 58, for twelve-byte terms.  Any other gets the answer that the library has for it.  A table typed as text is
- * lengthened for 58.  Ends with status 1 where a file can't be read or a typed table is refused. */
+ * program takes them.  WIDTH is 32, which stands where it is missing, or 53; KIND is 38, which stands where it is
+ * missing, or 58, for twelve-byte terms.  Any other gets the answer that the library has for it.  A table typed as text
+ * is lengthened for 58.  Ends with status 1 where a file can't be read or a typed table is refused. */
 #include <stdio.h>
 #include <string.h>
 
@@ -150,7 +150,8 @@ int main(int count, char **words)
     FILE *proposals = files ? fopen(words[2], "rb") : NULL;
 
     if (terms == NULL || proposals == NULL) {
-        fprintf(stderr, "usage: panel TERMS PROPOSALS [WIDTH [KIND]], two files that can be read, 32 or 53, 38 or 58\n");
+        fprintf(stderr, "usage: panel TERMS PROPOSALS [WIDTH [KIND]], two files that can be read, 32 or 53, "
+                        "and 38 or 58\n");
         return 1;
     }
     b.width = count > 3 ? width_of(words[3]) : WB_COARSE;

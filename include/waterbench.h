@@ -1,5 +1,5 @@
-/* The water bench: three calls that check what a search for water's saturation pair proposes, two that turn a table typed
- * as text into packed terms and back, and two that turn packed terms of one kind into the other.
+/* The water bench: three calls that check what a search for water's saturation pair proposes, two that turn a table
+ * typed as text into packed terms and back, and two that turn packed terms of one kind into the other.
  *
  * Lend a table of packed terms, 1 to 64 of them, and give the numbers as doubles.  Any bytes and any doubles are
  * answered, NaN and infinities too; nothing has to be checked before a call, and no byte is written but in the buffer
@@ -111,7 +111,8 @@ uint64_t wb_density(uint64_t width, uint64_t kind, const uint8_t *table, size_t 
 uint64_t wb_pair(uint64_t width, uint64_t kind, const uint8_t *table, size_t table_bytes, double temperature,
                  double liquid, double vapour, double pressure_tolerance, double gibbs_tolerance, uint64_t choice);
 
-/* Reading: a table typed as text becomes packed terms of nine bytes.  The text has 1 to 64 rows, each ended by a line feed:
+/* Reading: a table typed as text becomes packed terms of nine bytes.  The text has 1 to 64 rows, each ended by a line
+ * feed:
  *     3 5 15 -0.1216139400e-1
  * c (0 to 3), d (1 to 15) and t (0 to 24) without leading zeros, then the coefficient: a minus where needed, "0.", ten
  * digits of which the first is not zero, "e" and a power of ten from -6 to 1.  One space stands between the fields, and
@@ -141,8 +142,8 @@ uint64_t wb_lengthen(const uint8_t *table, size_t table_bytes, uint8_t *out, siz
 /* Shortening: a table of twelve-byte terms becomes one of nine-byte terms.  A term goes back exactly if c is at most 3,
  * the factor 100, or 0 for c = 0, d at most 15 and t at most 24.
  * Accepted: as for wb_lengthen.  576 bytes are room for any table.
- * Refusals: 1 and 2 by the rules of twelve-byte terms, 22, then 18; the buffer stays as it was.  With 22 WB_PLACE is the
- * place of the first term that does not go back.  The buffer must not overlap the table. */
+ * Refusals: 1 and 2 by the rules of twelve-byte terms, 22, then 18; the buffer stays as it was.  With 22 WB_PLACE is
+ * the place of the first term that does not go back.  The buffer must not overlap the table. */
 uint64_t wb_shorten(const uint8_t *table, size_t table_bytes, uint8_t *out, size_t out_bytes, uint64_t choice);
 
 /* An end as a double. */

@@ -1,7 +1,7 @@
 """The exponential of minus x, for a bracket x from 0 to 128 (01, "Exponential of minus x").  Assumes that range.
 
-No number of the sum is below zero, so its lower ends are made of lower ends alone, and its upper ends of upper ones; the
-tests hold this to the rule over all ends.
+No number of the sum is below zero, so its lower ends are made of lower ends alone, and its upper ends of upper ones;
+the tests hold this to the rule over all ends.
 """
 
 from functools import lru_cache

@@ -1,5 +1,5 @@
-/* What the C programs share that call entries with a lent buffer: a buffer between two guards, and the loop over records
- * of function, room and lent bytes (tests/gen_texts.py, tests/gen_convert.py).
+/* What the C programs share that call entries with a lent buffer: a buffer between two guards, and the loop over
+ * records of function, room and lent bytes (tests/gen_texts.py, tests/gen_convert.py).
  * Assumes whole records on standard input; ends with status 1 at anything else, at a call that leaves the lent block
  * another way than the call before it, and at one that changes a byte of its input. */
 #ifndef BLOCKS_H

@@ -1,9 +1,9 @@
 #!/usr/bin/env python3
-"""Prints pressure and stiffness at the critical point, 647.14 K and 322 kg/m3, by the second program's state sheet: what
-Table 4 gives at 53 bits and at 32, and what it would give at 53 bits with the factor 0.48 that (7.3) prints.
+"""Prints pressure and stiffness at the critical point, 647.14 K and 322 kg/m3, by the second program's state sheet:
+what Table 4 gives at 53 bits and at 32, and what it would give at 53 bits with the factor 0.48 that (7.3) prints.
 
-Document 001 constrained its equation to 22.064 MPa there, with no stiffness.  `python3 tests/critical_point.py`, from any
-directory.  Assumes data/terms58.bin.
+Document 001 constrained its equation to 22.064 MPa there, with no stiffness.  `python3 tests/critical_point.py`, from
+any directory.  Assumes data/terms58.bin.
 """
 
 import os

@@ -30,7 +30,8 @@ def of_one_width(random, bits):
         a, b = any_bracket(random, bits), any_bracket(random, bits, positive=operation == 3)
         yield record(bits, operation, 0, words_of_bracket(a), words_of_bracket(b))
     base = random.choice([samples.narrow(random, bits, low=-19, high=2), samples.bracket(random, bits, reach=260)])
-    yield record(bits, 4, random.choice([random.randint(0, 24), random.randint(0, 63)]), words_of_bracket(base), [0] * 6)
+    n = random.choice([random.randint(0, 24), random.randint(0, 63)])
+    yield record(bits, 4, n, words_of_bracket(base), [0] * 6)
 
 
 def records():

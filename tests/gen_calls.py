@@ -12,6 +12,7 @@ Line, 8 words: what the panel's call hands back for the choices 0 to 6 and for 2
 from collections import Counter
 from random import Random
 
+import cut_off
 import odd_pairs
 from gen_pairs import liquid, near_322, vapour
 from second import f64
@@ -25,7 +26,7 @@ from second.tests.test_verdicts import AT_ZERO, BELOW_ZERO, CEILINGS, EASY, NONE
 from second.verdict import WIDTHS, density_check, pair_check, state_sheet
 from stream import record, run_of
 
-EACH, PULLED, OTHERS = {38: 1000, 58: 600}, {38: 200, 58: 100}, 100
+EACH, PULLED, OTHERS, CUT = {38: 1000, 58: 600}, {38: 200, 58: 100}, 100, 12
 CHOICES = list(range(7)) + [2 ** 64 - 1]
 FUNCTIONS = ((state_sheet, 2), (density_check, 4), (pair_check, 5))  # with the count of f64s
 LONGEST = {38: 600, 58: 800}  # a little more than each kind's longest table
@@ -115,8 +116,8 @@ def both_sides(*limits):
 
 
 def fixed_58():
-    """02 h: both sides of the longer record's limits, its ceiling, its terms' fields, lengths, and exponentials that are
-    cut off."""
+    """02 h: both sides of the longer record's limits, its ceiling, its terms' fields, lengths, and exponentials that
+    are cut off."""
     easy = lengthen(EASY, 12).output
     for ceiling in CEILINGS_58.values():
         for table in ceiling.tables():
@@ -146,6 +147,13 @@ def fixed_58():
         yield 0, samples.table4(), [W(500.0), rho]
     T, *pair = BELOW_ZERO
     yield 2, lengthen(samples.odd_table(), 99).output, [T, *pair, W(1000.0), W(1.0)]
+
+
+def cut(random, width):
+    """Exponentials that are cut off and still count."""
+    for table, T, rho in cut_off.states(random, width, CUT):
+        yield width, 58, 0, table, [T, rho]
+        yield width, 58, 1, table, [T, rho, 0, W(1e6)]
 
 
 def any_call(random, width, kind, function):
@@ -200,6 +208,7 @@ def calls():
         yield from (pulled(random, width, kind) for _ in range(PULLED[kind.number]) for width in WIDTHS)
     yield from other_widths(Random(112))
     yield from other_kinds(Random(116))
+    yield from (call for width in WIDTHS for call in cut(Random(120), width))
 
 
 def packed_call(width, kind, function, table, fields):

@@ -1,5 +1,5 @@
-"""Tables to lengthen and to shorten, over 9,000 different ones, into lent buffers (fields as in stream.py).  Assumes the
-seeds below.
+"""Tables to lengthen and to shorten, over 9,000 different ones, into lent buffers (fields as in stream.py).  Assumes
+the seeds below.
 
 Record: function (0 lengthens, 1 shortens), room (the buffer's length in bytes), the lent table of 0 to 800 bytes.
 Line: what the call hands back for the choices 0 to 3 and for 2^64 - 1; then the block after the call as words: 8 bytes,

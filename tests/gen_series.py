@@ -62,8 +62,8 @@ def longer_arguments(random, bits):
         thin, any_density = random.choice([THINNEST, W(2.0 ** random.uniform(-10, 0))]), samples.density(random, TWELVE)
         for density in (thin, any_density):
             delta = given(bits, *f64.exact(density)) / CRITICAL_DENSITY
-            c, factor = random.choice([1, 2, 3, 6, 14, 15]), random.choice([1, 40, 100, 200, 1023, random.randint(1, 1023)])
-            g = exponent(Term(c, factor, 1, 0, 0, 1), delta)
+            factor = random.choice([1, 40, 100, 200, 1023, random.randint(1, 1023)])
+            g = exponent(Term(random.choice([1, 2, 3, 6, 14, 15]), factor, 1, 0, 0, 1), delta)
             if at_most(exact(g.upper), GREATEST):
                 yield g
         yield samples.narrow(random, bits, low=-292, high=random.choice([-60, 6.99]))

@@ -1,24 +1,24 @@
-"""States over the whole accepted range, 500 at each width for each kind of table (fields as in stream.py).  Assumes the
-seeds below.
+"""States over the whole accepted range, 500 at each width for each kind of table, and 60 at each width whose exponential
+is cut off and still counts (fields as in stream.py).  Assumes the seeds below.
 
 Record: width, kind, a sound table of that kind, T, density.
 Line, 4 words: pressure's two ends and stiffness' two ends, as f64s; pressures over the ceiling too.
 """
 
+import struct
 from random import Random
 
+import cut_off
 from second import f64
-from second.equation import exponent, given, phase, pressure, stiffness
-from second.exact import below
+from second.equation import phase, pressure, stiffness
 from second.kind import KINDS, NINE
-from second.sheet import exact
 from second.term import terms_of
 from second.tests import samples
 from second.verdict import WIDTHS
-from stream import Reader, record, run_of
+from stream import record, run_of
 
 COUNT = 500
-CUT = 100  # states at least whose exponential is cut off
+CUT = 60
 
 
 def corners(kind):
@@ -52,31 +52,28 @@ def records():
                 yield record(bits, kind.number, a_table(random, i, kind), *state(random, i // 2, kind))
 
 
+def cut_records():
+    random = Random(119)
+    for bits in WIDTHS:
+        yield from (record(bits, 58, *state) for state in cut_off.states(random, bits, CUT))
+
+
 def ends(*brackets):
     return [f64.of_sheet(end) for b in brackets for end in (b.lower, b.upper)]
 
 
-def fields(reader):
-    """Width, terms, T and density of a record."""
-    bits, kind = reader.word(), KINDS[reader.word()]
-    return bits, terms_of(kind, reader.table()), f64.exact(reader.word()), f64.exact(reader.word())
-
-
 def answer(reader):
-    found = phase(*fields(reader))
+    bits, kind = reader.word(), KINDS[reader.word()]
+    terms, T, rho = terms_of(kind, reader.table()), f64.exact(reader.word()), f64.exact(reader.word())
+    found = phase(bits, terms, T, rho)
     return ends(pressure(found), stiffness(found))
 
 
-def cut_off(bits, terms, _, rho):
-    """Whether an exponential of this state is cut off."""
-    delta = given(bits, *rho) / 322
-    return any(below((128, 1, 0), exact(exponent(term, delta).upper)) for term in terms if term.c)
-
-
 def runs():
-    run = run_of(records(), answer)
-    reader, cut = Reader(run.stdin), 0
-    while not reader.ended():
-        cut += cut_off(*fields(reader))
-    assert len(run.lines) == 4 * COUNT and cut >= CUT, cut
+    """Where an exponential is cut off and counts, the pressure's ends lie apart by more than a part in a million."""
+    yield run_of(records(), answer)
+    run = run_of(cut_records(), answer)
+    for line in run.lines:
+        low, high = (struct.unpack(">d", bytes.fromhex(word))[0] for word in line.split()[:2])
+        assert high - low > 1e-6 * max(abs(low), abs(high)), line
     yield run

@@ -172,7 +172,8 @@ def odd_tables(random):
         yield random.getrandbits(4800).to_bytes(600, "big")[:length]
     for magnitude in edge_magnitudes():
         yield packed(NINE, samples.term(random)._replace(magnitude=magnitude))
-    yield from (packed(NINE, term38(3, 15, 24, 1, 10 ** 9)) * count for count in (64, 65))  # the longest text, and one row more
+    longest = packed(NINE, term38(3, 15, 24, 1, 10 ** 9))
+    yield from (longest * count for count in (64, 65))  # the longest text, and one row more
     yield samples.table5()
     yield samples.odd_table()
 

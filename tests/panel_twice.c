@@ -3,9 +3,9 @@
  *
  *   panel_twice CALLS DEEP [SEED]
  *
- * Every call has random bytes as its table and random bit patterns as its doubles; its width is mostly 32 or 53, its kind
- * mostly 38 or 58, and either at times any number.  Of every DEEP calls one is made to get as far as the equation: such a
- * width and kind, a sound table of one to three terms and numbers in their ranges; 0 makes none of these.
+ * Every call has random bytes as its table and random bit patterns as its doubles; its width is mostly 32 or 53, its
+ * kind mostly 38 or 58, and either at times any number.  Of every DEEP calls one is made to get as far as the equation:
+ * such a width and kind, a sound table of one to three terms and numbers in their ranges; 0 makes none of these.
  * Ends with a line 'N passed, M failed'. */
 #include <inttypes.h>
 #include <stdio.h>

@@ -32,9 +32,16 @@ def rows(kind):
 ROWS = {number: rows(kind) for number, kind in KINDS.items()}
 
 
+def one_by_one(addends):
+    total = 0.0
+    for x in addends:
+        total += x
+    return total
+
+
 def sums(T, rho, table):
-    """S0, S1, S2.  They are summed without rounding: in thin cold vapour Table 4 has two terms for each of its last four
-    rows that are large and nearly cancel."""
+    """S0, S1, S2.  Where terms have factors they are summed without rounding: Table 4 has two terms for each of its
+    last four rows, and in thin cold vapour these are large and nearly cancel."""
     delta, tau = rho / RHOC, TC / T
     addends = []
     for c, factor, d, t, a in table:
@@ -42,7 +49,8 @@ def sums(T, rho, table):
         v = a * delta ** d * tau ** t * (math.exp(-g) if c else 1.0)
         w = d - c * g
         addends.append((v, v * w, v * (w * (w - 1) - c * (c * g))))
-    return tuple(map(math.fsum, zip(*addends)))
+    factors = any(factor not in (0, 1) for _, factor, *_ in table)
+    return tuple(map(math.fsum if factors else one_by_one, zip(*addends)))
 
 
 def pressure(T, rho, kind=NINE.number):

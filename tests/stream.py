@@ -5,7 +5,8 @@ Every field of a record is one word of eight bytes, most significant first:
   a sheet number   three words: 1 for negative else 0; |m|; e + 262144.  Zero is 0 0 0.
   a bracket        its lower end, then its upper end: six words
   a table          its length in bytes, then the bytes, then zero bytes up to a multiple of eight
-A record that depends on the width has it as its first word.  There is no count in front and no mark at the end:
+A record that depends on the width has it as its first word, and one that depends on the kind of table (38 or 58) has
+that behind the width, or first where there is no width.  There is no count in front and no mark at the end:
 records follow each other until the input ends.
 Every record is answered by one line: words of 16 lower-case hexadecimal digits, one space between, a line feed.
 """

@@ -114,7 +114,8 @@ def density(random, kind=NINE):
 
 def odd_f64(random):
     """Any bits, the values that programs trip over, and neighbours of limits."""
-    limit = f64.word(random.choice([0.0, 252.0, 273.0, 273.16, 1273.0, 2.0 ** -10, 1288.0, 2576.0, 322.0, 1e9, 25e9, 1e6]))
+    limit = f64.word(random.choice([0.0, 252.0, 273.0, 273.16, 1273.0, 2.0 ** -10, 1288.0, 2576.0, 322.0, 1e9, 25e9,
+                                    1e6]))
     return random.choice([random.getrandbits(64), INFINITY, INFINITY | NEGATIVE, NAN, NAN | NEGATIVE, 0, NEGATIVE, 1,
                           NEGATIVE | 1, limit, above(limit), under(limit), limit ^ NEGATIVE])
 
@@ -149,8 +150,8 @@ def gentle_term(random, kind=NINE):
 
 
 def sound_table(random, most=MOST, make=term, kind=NINE):
-    """A table of random terms.  One of the longer record mostly has few different exponentials, as Table 4 has: each one
-    takes a while."""
+    """A table of random terms.  One of the longer record mostly has few different exponentials, as Table 4 has: each
+    one takes a while."""
     terms = [make(random, kind) for _ in range(random.randint(1, most))]
     if kind == TWELVE and (len(terms) > 8 or random.randrange(8)):
         few = [exponents(random, kind) for _ in range(random.choice([1, 2, 3, 4]))]

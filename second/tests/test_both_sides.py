@@ -40,7 +40,7 @@ import os
 from second import f64
 from second.kind import NINE, TWELVE
 from second.tests.samples import INFINITY, NAN, NEGATIVE, ROOT, WRONG_KINDS, WRONG_WIDTHS, above, odd_table, under
-from second.term import Term, packed, term38
+from second.term import Term, packed, table_of, term38
 from second.verdict import WIDTHS, density_check, pair_check, state_sheet
 
 W = f64.word
@@ -50,7 +50,7 @@ T, RHO, LIQUID, VAPOUR = W(300.0), W(1.0), W(322.125), W(321.875)  # accepted wi
 
 EASY = packed(NINE, term38(0, 1, 0, 0, 10 ** 13))  # small and positive
 NONE = packed(NINE, term38(0, 1, 0, 1, 10 ** 16))  # coefficient -1: no pressure at density 322
-STIFF = packed(NINE, term38(0, 1, 0, 1, 3 * 10 ** 16)) + packed(NINE, term38(0, 2, 0, 0, 10 ** 16))  # nor here, but it pushes back
+STIFF = table_of(NINE, (term38(0, 1, 0, 1, 3 * 10 ** 16), term38(0, 2, 0, 0, 10 ** 16)))  # nor here, but it pushes back
 CEILING = bytes.fromhex("040003124af21a859a")  # at 1250 K and 1288 kg/m3 the upper end of pressure is 10^9 at 32 bits
 OVER = bytes.fromhex("040003124af21a859b")  # there it is the next sheet number
 FINE_CEILING = bytes.fromhex("040028ec62df053562")  # the same two for 53 bits, at 300 K
@@ -200,7 +200,8 @@ def least_gaps(width):
             ("gap of 0, tolerance 0", 0, 0, 11),
             ("gap of -2^-1074, tolerance 0", LEAST, 0, 9),
             ("gap of -2^-1074, tolerance 2^-1074", LEAST, LEAST, 11)):
-        yield line(width, "density check", label, density_check(width, 38, NONE, T, W(322.0), target, tolerance), (number,))
+        answer = density_check(width, 38, NONE, T, W(322.0), target, tolerance)
+        yield line(width, "density check", label, answer, (number,))
 
 
 def stiffnesses(width):

@@ -70,8 +70,8 @@ def test_P10(width):
 
 def test_exponential_covers_its_levels():
     for bits in (32, 53):
-        for x in (0, 1, Fraction(1, 1024 * 322) ** 3, Fraction(1, 1024 * 322) ** 15 / 100, Fraction(5, 7), 4, 64, 127, 128):
-            x = Fraction(x)
+        thinnest = Fraction(1, 1024 * 322)
+        for x in map(Fraction, (0, 1, thinnest ** 3, thinnest ** 15 / 100, Fraction(5, 7), 4, 64, 127, 128)):
             b = exponential_of_minus(given(bits, x.numerator, x.denominator))
             assert b.lower[0] > 0
             for N in (256, 257, 300):

@@ -1,5 +1,5 @@
-"""The kinds of table: 29, both sides of each limit of the longer record, what stays the same, the factor, the exponential
-that is cut off, and the words of the bench program (02 h)."""
+"""The kinds of table: 29, both sides of each limit of the longer record, what stays the same, the factor, the
+exponential that is cut off, and the words of the bench program (02 h)."""
 
 import random as randoms
 import struct
@@ -64,7 +64,8 @@ def test_lengthened_tables_answer_the_same(width):
     """Where both kinds' limits allow an input: the factor 100 is exactly 1."""
     random = randoms.Random(61)
     for _ in range(25):
-        table = samples.sound_table(random, random.choice([1, 3, 8]), random.choice([samples.term, samples.gentle_term]))
+        make = random.choice([samples.term, samples.gentle_term])
+        table = samples.sound_table(random, random.choice([1, 3, 8]), make)
         longer = lengthen(table, 768).output
         T, rho = samples.temperature(random), samples.density(random)
         old, new = state_sheet(width, 38, table, T, rho), state_sheet(width, 58, longer, T, rho)

@@ -1,5 +1,5 @@
-"""Table 4 against what is known of water and against Table 5, with the rough search of tests/: a slip in the typed table
-would show.  tests/critical_point.py prints what it gives at the critical point.
+"""Table 4 against what is known of water and against Table 5, with the rough search of tests/: a slip in the typed
+table would show.  tests/critical_point.py prints what it gives at the critical point.
 
 Floats are used here; nothing else rests on them.
 """
@@ -26,7 +26,8 @@ def critical(width, table):
 
 
 def test_the_bytes_that_ship():
-    assert data("terms58.bin") == pack4.table() and len(pack4.table()) == 62 * 12 and first_broken(TWELVE, table4()) == 0
+    assert data("terms58.bin") == pack4.table() and len(pack4.table()) == 62 * 12
+    assert first_broken(TWELVE, table4()) == 0
 
 
 def test_layout():
@@ -111,8 +112,8 @@ def test_saturation_line():
 
 
 def test_cold_vapour_is_wide():
-    """docs/TOLERANCES.md: the two terms of row 55 nearly cancel in thin cold vapour, and each is large by tau^50.  At 32
-    bits no cold pair gets past 21; from 400 K on there is none that is refused with it."""
+    """docs/TOLERANCES.md: the two terms of row 55 nearly cancel in thin cold vapour, and each is large by tau^50.  At
+    32 bits no cold pair gets past 21; of these from 400 K on none is refused with it."""
     for T in (273.16, 300.0, 320.0, 350.0, 373.15, 400.0, 450.0, 500.0, 640.0):
         answer = pair_check(32, 58, table4(), W(T), *map(W, rough_search.pair(T, 58)), W(1e6), W(1e6))
         assert answer.number == (21 if T < 400 else 0), T

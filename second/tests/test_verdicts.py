@@ -1,5 +1,5 @@
-"""The answers for nine-byte tables: 01's example output, every row of its "Both sides of the line", 02 b, d and f, traps,
-and the panel's choices."""
+"""The answers for nine-byte tables: 01's example output, every row of its "Both sides of the line", 02 b, d and f,
+traps, and the panel's choices."""
 
 import struct
 from fractions import Fraction
@@ -204,8 +204,8 @@ def test_order_of_the_numbers(width):
     T, rho, over = CEILINGS[width].T, CEILINGS[width].rho, CEILINGS[width].tables()[1]
     bad = dict(width=31, kind=37, table=b"", T=NAN, rho=NAN, target=NAN, tolerance=NAN)
     for mend, number in ((dict(), 19), (dict(width=width), 29), (dict(kind=38), 1), (dict(table=broken), 2),
-                         (dict(table=over), 3), (dict(T=T), 4), (dict(rho=rho), 5), (dict(target=W(0.0)), 6), (dict(tolerance=0), 8),
-                         (dict(table=EASY), 9)):
+                         (dict(table=over), 3), (dict(T=T), 4), (dict(rho=rho), 5), (dict(target=W(0.0)), 6),
+                         (dict(tolerance=0), 8), (dict(table=EASY), 9)):
         bad.update(mend)
         assert density_check(**bad).number == number
     bad = dict(width=31, kind=37, table=b"", T=NAN, liquid=NAN, vapour=NAN, pressure_tolerance=NAN,
