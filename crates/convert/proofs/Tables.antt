@@ -96,6 +96,9 @@ module _ (table : List ℕ) (sound : soundTable 38 table ≡ true) where
   pub lengthened-sound : soundTable 58 (lengthened table) ≡ true
   lengthened-sound = converted-sound 38 58 table sound (new-forms table (countTerms 38 table))
 
+  pub lengthened-count : countTerms 58 (lengthened table) ≡ countTerms 38 table
+  lengthened-count = converted-count 38 58 table sound (new-forms table (countTerms 38 table))
+
   pub lengthened-at : (k : ℕ) → k < countTerms 38 table → termAt 58 (lengthened table) k ≡ termAt 38 table k
   lengthened-at = converted-at 38 58 table sound (new-forms table (countTerms 38 table))
 

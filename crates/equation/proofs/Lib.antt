@@ -14,6 +14,7 @@ pub mod Clip
 pub mod Steps
 pub mod Cases
 pub mod Plain
+pub mod Same
 pub mod Holds
 pub mod HoldsSums
 pub mod HoldsStates

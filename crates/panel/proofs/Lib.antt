@@ -2,3 +2,5 @@
 pub mod Choices
 pub mod AcceptedCall
 pub mod TypedSettled
+pub mod ConvertedSettled
+pub mod Lengthened

@@ -1,3 +1,4 @@
 -- The definitions that the contracts of `panel` cite. Assumes nothing.
 pub mod Chosen
 pub mod Typed
+pub mod Converted
