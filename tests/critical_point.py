@@ -8,6 +8,7 @@ any directory.  Assumes data/terms58.bin.
 
 import os
 import struct
+import subprocess
 import sys
 
 ROOT = os.path.dirname(os.path.dirname(os.path.abspath(__file__)))
@@ -19,10 +20,20 @@ from second.term import table_of, terms_of  # noqa: E402
 from second.verdict import state_sheet  # noqa: E402
 
 
+def ends_of(width, table):
+    """The bits of the four ends, by the second program or by the program that is named."""
+    T, rho = f64.word(647.14), f64.word(322.0)
+    if len(sys.argv) == 1:
+        answer = state_sheet(width, TWELVE.number, table, T, rho)
+        assert answer.number == 0
+        return answer.ends
+    record = struct.pack(">3Q", width, TWELVE.number, len(table)) + table + bytes(-len(table) % 8)
+    done = subprocess.run(sys.argv[1:], input=record + struct.pack(">2Q", T, rho), stdout=subprocess.PIPE, check=True)
+    return [int(word, 16) for word in done.stdout.split()]
+
+
 def printed(width, table, label):
-    answer = state_sheet(width, TWELVE.number, table, f64.word(647.14), f64.word(322.0))
-    assert answer.number == 0
-    ends = [struct.unpack(">d", struct.pack(">Q", end))[0] for end in answer.ends]
+    ends = [struct.unpack(">d", struct.pack(">Q", end))[0] for end in ends_of(width, table)]
     print("%s, at %d bits" % (label, width))
     print("    pressure   from %.6f to %.6f Pa" % tuple(ends[:2]))
     print("    stiffness  from %.6f to %.6f Pa m3/kg" % tuple(ends[2:]))
