@@ -63,6 +63,11 @@ pub fn lengths(width: u64) {
     table(width, 58, b"table of 0 bytes", &bytes[0..0], 300.0);
     table(width, 58, b"table of 9 bytes", &bytes[0..9], 300.0);
     table(width, 58, b"table of 11 bytes", &bytes[0..11], 300.0);
+    more_lengths(width);
+}
+
+fn more_lengths(width: u64) {
+    let bytes = filled(&EASIER);
     table(width, 58, b"table of 13 bytes", &bytes[0..13], 300.0);
     table(width, 58, b"table of 780 bytes", &bytes[0..780], 300.0);
 }

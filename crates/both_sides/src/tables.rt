@@ -11,6 +11,11 @@ pub fn lengths(width: u64) {
     table(width, b"table of 0 bytes", &bytes[0..0]);
     table(width, b"table of 8 bytes", &bytes[0..8]);
     table(width, b"table of 10 bytes", &bytes[0..10]);
+    more_lengths(width);
+}
+
+fn more_lengths(width: u64) {
+    let bytes = filled(&EASY);
     table(width, b"table of 577 bytes", &bytes[0..577]);
     table(width, b"table of 585 bytes", &bytes[0..585]);
 }

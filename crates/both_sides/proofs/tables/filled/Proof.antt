@@ -1,5 +1,6 @@
 -- `both_sides::tables::filled` is safe and ends: the measure is what is left of the bytes. Assumes nothing.
 use Prim.Native.Nat.{_-_}
+use native.Mathlib.Nat.{mod-lt}
 use mathlib.Core.Path.{_≡_}
 use lib.ListN.{length}
 use borrow.Author.Needs.{needs}
@@ -19,7 +20,7 @@ rem-bytes : tie.Need-rem-bytes Inv-loop μ-loop
 rem-bytes c = search needs
 
 shared-slice-read-bytes : tie.Need-shared-slice-read-bytes Inv-loop μ-loop
-shared-slice-read-bytes c = search needs
+shared-slice-read-bytes c = search (mod-lt, needs)
 
 array-write-bytes : tie.Need-array-write-bytes Inv-loop μ-loop
 array-write-bytes c = search needs
