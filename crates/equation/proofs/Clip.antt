@@ -18,7 +18,7 @@ use Rattle.bracket.proofs.Same.{point-≃}
 use Rattle.series.specs.Exponential.{expneg}
 use Rattle.series.proofs.ExponentialSame.{expneg-≃}
 use Rattle.equation.specs.Rules.{clipped, factorE}
-use Rattle.equation.specs.Clip.{clipAt}
+use Rattle.equation.specs.Clip.{clipAt, exponentOf, startedAt}
 
 few : {v : ℕ} → 8 ≤ v → 128 < 2 ^ suc v
 few {v} h = omega (arith, pow-mono {i = 8} {j = suc v} (omega arith))
@@ -83,3 +83,10 @@ clipped-is v digits g = go (leq (nat 128) (value (g .lo))) refl
         rw (least-first (leq-true (nat 128) (value (g .lo)) e))
         (ap fromZero (expneg-≃ v (point-≃ (≈-sym (round-whole false v 128 (few digits))))))
     go false e = rw (least-second (leq-false (nat 128) (value (g .lo)) e))
+
+-- E as the code takes it, by whether g is within 128
+pub e-taken : (v c : ℕ) → 8 ≤ v → (g : Bracket) → 0 < c → (b : Bool) → leq (value (g .hi)) (nat 128) ≡ b
+    → startedAt b (expneg (suc v) (ends (exponentOf (suc v) b g))) ≡ factorE (suc v) c g
+unfolding startedAt exponentOf
+e-taken v c digits g p true e = sym (e-whole (suc v) c g p e)
+e-taken v c digits g p false e = sym (e-clipped (suc v) c g p e ∙ clipped-is v digits g)

@@ -31,7 +31,7 @@ use Rattle.equation.specs.Ranged.{HeldAs, DeltaIn, TauIn, GIn, EIn, VIn,
 use Rattle.equation.specs.Constants.{criticalTemperature, gasConstant, hundredths, exactCoefficient}
 use Rattle.equation.specs.Accepted.{Temperature, Density}
 use Rattle.equation.specs.Rules.{delta, tau, coefficient, scaled, gOf, clipped, factorE, termV, termW, factorW, factorS2}
-use Rattle.equation.specs.Clip.{clipAt}
+use Rattle.equation.specs.Clip.{clipAt, exponentOf}
 use Rattle.equation.proofs.Room.{room}
 use Rattle.equation.proofs.Weaker.{plus-digits}
 use Rattle.equation.proofs.Clip.{only, fromZero, clipped-is}
@@ -125,7 +125,7 @@ module _ {v : ℕ} (g : Bracket) (p : GIn v g) where
   pub digits : 8 ≤ v
   digits = let w = wide p in omega arith
 
-  pub g-taken : value (g .hi) ≼ nat 128 → Taken (ends g)
+  g-taken : value (g .hi) ≼ nat 128 → Taken (ends g)
   g-taken m =
       taken-of (record { order = p .held .order })
       (record {
@@ -145,16 +145,22 @@ module _ {v : ℕ} (g : Bracket) (p : GIn v g) where
   clip-each : Each (Positive (bias - 292) (bias + 7)) (ends (only (clipAt (suc v) g)))
   clip-each = record { low = clip-positive; high = clip-positive }
 
-  pub clip-taken : Taken (ends (only (clipAt (suc v) g)))
+  clip-taken : Taken (ends (only (clipAt (suc v) g)))
   clip-taken = taken-of (point-ordered _) clip-each
 
-  pub clip-held : Held v (only (clipAt (suc v) g))
+  clip-held : Held v (only (clipAt (suc v) g))
   unfolding clipAt rounded
   clip-held = go (leq (nat 128) (value (g .lo)))
     where
       go : (b : Bool) → Held v (only (cond b (down (suc v) (nat 128)) (g .lo)))
       go true = let h = whole-held (wide p) 128 (omega arith) in record { lo = h .lo; hi = h .lo; order = ≼-refl _ }
       go false = record { lo = p .held .lo; hi = p .held .lo; order = ≼-refl _ }
+
+  -- what the exponential is taken of
+  pub exponent-fits : (b : Bool) → leq (value (g .hi)) (nat 128) ≡ b → Held v (exponentOf (suc v) b g) × Taken (ends (exponentOf (suc v) b g))
+  unfolding exponentOf
+  exponent-fits true e = (p .held, g-taken (leq-true (value (g .hi)) (nat 128) e))
+  exponent-fits false e = (clip-held, clip-taken)
 
   zero-held : {b : Bracket} → Held v b → nat 0 ≼ value (b .hi) → Held v (fromZero b)
   zero-held k q =

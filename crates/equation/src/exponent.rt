@@ -5,8 +5,10 @@ use term::Term;
 ghost use mathlib.Core.Path.{_≡_};
 ghost use Prim.Native.Nat.{suc};
 ghost use Rattle.term.specs.Bounds.{Bounds};
-ghost use Rattle.equation.specs.Rules.{gOf, clipped, factorE};
-ghost use Rattle.equation.specs.Clip.{clipAt};
+ghost use Rattle.exact.specs.Fraction.{nat, leq};
+ghost use Rattle.sheet.specs.Number.{value};
+ghost use Rattle.equation.specs.Rules.{gOf, factorE};
+ghost use Rattle.equation.specs.Clip.{clipAt, exponentOf, startedAt};
 ghost use Rattle.equation.specs.Ranged.{DeltaIn, GIn};
 
 // g, the factor times delta^c. For c = 0 no factor enters, and 100 hundredths are 1, which changes no bracket.
@@ -36,14 +38,35 @@ fn clip_at(v: u64, g: Bracket) -> Sheet
     if sheet::at_most(most, lo) { most } else { lo }
 }
 
-// E where g's upper end is above 128.
-fn clipped(v: u64, g: Bracket) -> Bracket
+// Whether g's upper end is at most 128.
+fn within(v: u64, g: Bracket) -> bool
     requires { ⌜ GIn v g ⌝ }
-    ensures { λ r. ⌜ r ≡ clipped (suc v) g ⌝ }
+    ensures { λ r. ⌜ r ≡ leq (value (g .hi)) (nat 128) ⌝ }
 {
+    let limit = sheet::whole(v, 128);
+    let hi = g.hi;
+    sheet::at_most(hi, limit)
+}
+
+// What the exponential is taken of: all of g, or the clip's point.
+fn exponent(v: u64, g: Bracket, all: bool) -> Bracket
+    requires { ⌜ GIn v g ⌝ }
+    ensures { λ r. ⌜ r ≡ exponentOf (suc v) all g ⌝ }
+{
+    if all {
+        return g;
+    }
     let at = clip_at(v, g);
-    let x = Bracket { lo: at, hi: at };
-    let e = series::expneg(v, x);
+    Bracket { lo: at, hi: at }
+}
+
+// A clipped E starts at zero.
+fn started(e: Bracket, all: bool) -> Bracket
+    ensures { λ r. ⌜ r ≡ startedAt all e ⌝ }
+{
+    if all {
+        return e;
+    }
     let lo = Sheet {
         neg: false,
         m: 0,
@@ -53,19 +76,15 @@ fn clipped(v: u64, g: Bracket) -> Bracket
     Bracket { lo, hi }
 }
 
-// For c = 0 there is no exponential.
+// For c = 0 there is no exponential. It is called in one place, clipped or not: that keeps kind 38 as fast as without the clip.
 pub fn factor_e(v: u64, c: u64, g: Bracket) -> Bracket
     requires { ⌜ GIn v g ⌝ }
     ensures { λ r. ⌜ r ≡ factorE (suc v) c g ⌝ }
 {
     if 0 < c {
-        let limit = sheet::whole(v, 128);
-        let hi = g.hi;
-        if sheet::at_most(hi, limit) {
-            series::expneg(v, g)
-        } else {
-            clipped(v, g)
-        }
+        let all = within(v, g);
+        let x = exponent(v, g, all);
+        started(series::expneg(v, x), all)
     } else {
         bracket::whole(v, 1)
     }
