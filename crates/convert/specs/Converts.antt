@@ -45,7 +45,7 @@ pub record Turned (from to : ℕ) (table before : List ℕ) (n : ℕ) (after : L
 
 -- 18: the converted table is longer than the buffer
 pub record NoRoomFor (from to : ℕ) (table before : List ℕ) : Type 0 where
-  pub form : FormBelow from to table (countTerms from table) -- else it is 22
+  pub form : FormBelow from to table (countTerms from table)  -- else it is 22
   pub longer : length before < length (converted from to table)
 
 abbrev pub Packs : (from to : ℕ) → List ℕ → List ℕ → List ℕ → Packed → Type 0
