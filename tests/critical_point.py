@@ -3,7 +3,8 @@
 what Table 4 gives at 53 bits and at 32, and what it would give at 53 bits with the factor 0.48 that (7.3) prints.
 
 Document 001 constrained its equation to 22.064 MPa there, with no stiffness.  `python3 tests/critical_point.py`, from
-any directory.  Assumes data/terms58.bin.
+any directory; with the words `sh tests/run equation_lines` behind it, the library's own values.  Assumes
+data/terms58.bin.
 """
 
 import os

@@ -21,6 +21,10 @@ widest = 58
 abbrev pub termBytes : ℕ → ℕ
 termBytes kind = byKind kind 9 12
 
+-- how many bytes the longest table has, 64 terms
+abbrev pub longest : ℕ → ℕ
+longest kind = byKind kind 576 768
+
 -- the least temperature of the state sheet and the density check, in K
 abbrev pub coldest : ℕ → ℕ
 coldest kind = byKind kind 273 252

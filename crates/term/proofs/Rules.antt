@@ -7,7 +7,7 @@ use mathlib.Core.Bool.{Bool, true, false, cond, _&&_, false≢true}
 use borrow.Author.Tests.{ltb-true, leb-true, eqb-true, eqb-false, lt-ltb, eq-eqb, ne-eqb}
 use native.Mathlib.Omega.{arith}
 use lib.Dec.{leb, ltb, eqb}
-use Rattle.kind.specs.Kind.{byKind, termBytes}
+use Rattle.kind.specs.Kind.{byKind, termBytes, longest}
 use Rattle.kind.proofs.Either.{by-long, by-plain, by-either}
 use Rattle.term.specs.declared.Term.{Term}
 use Rattle.term.specs.declared.Table.the-variants.{Sound, Broken}
@@ -191,7 +191,7 @@ some-bytes kind = by-either kind (λ one. 0 < one) (omega arith) (omega arith)
 pub few-bytes : (kind : ℕ) → termBytes kind ≤ 12
 few-bytes kind = by-either kind (λ one. one ≤ 12) (omega arith) (omega arith)
 
-pub most-bytes : (kind : ℕ) → 64 * termBytes kind ≡ byKind kind 576 768
+pub most-bytes : (kind : ℕ) → 64 * termBytes kind ≡ longest kind
 unfolding byKind
 most-bytes kind = go (eqb kind 58)
   where
@@ -206,10 +206,10 @@ pub soundLength-whole : (kind bytes : ℕ) → soundLength kind bytes ≡ true �
 unfolding soundLength
 soundLength-whole kind bytes h =
     let p = both _ (eqb (bytes % termBytes kind) 0) h in
-    let q = both (leb (termBytes kind) bytes) (leb bytes (byKind kind 576 768)) (p .0) in
+    let q = both (leb (termBytes kind) bytes) (leb bytes (longest kind)) (p .0) in
     record {
       some = leb-true (termBytes kind) bytes (q .0);
-      most = leb-true bytes (byKind kind 576 768) (q .1);
+      most = leb-true bytes (longest kind) (q .1);
       whole = whole-bytes kind bytes (eqb-true (bytes % termBytes kind) 0 (p .1));
     }
 

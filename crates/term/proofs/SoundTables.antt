@@ -6,7 +6,7 @@ use mathlib.Core.List.{List, [], _∷_, _++_, append-assoc}
 use native.Mathlib.Omega.{arith}
 use borrow.Author.Tests.{le-leb, eq-eqb}
 use lib.ListN.{length}
-use Rattle.kind.specs.Kind.{byKind, termBytes}
+use Rattle.kind.specs.Kind.{termBytes, longest}
 use Rattle.kind.proofs.Either.{by-either}
 use Rattle.term.specs.declared.Term.{Term}
 use Rattle.term.specs.Bounds.{AllWithin}
@@ -28,7 +28,7 @@ module _ (kind : ℕ) where
       let low : one ≤ one * n = by-either kind (λ b. b ≤ b * n) (omega arith) (omega arith) in
       let high : one * n ≤ 64 * one = by-either kind (λ b. b * n ≤ 64 * b) (omega arith) (omega arith) in
       let even : one * n % one ≡ 0 = by-either kind (λ b. b * n % b ≡ 0) (omega arith) (omega arith) in
-      rw (le-leb one (one * n) low, le-leb (one * n) (byKind kind 576 768) (omega (arith, most-bytes kind)), eq-eqb (one * n % one) 0 even)
+      rw (le-leb one (one * n) low, le-leb (one * n) (longest kind) (omega (arith, most-bytes kind)), eq-eqb (one * n % one) 0 even)
 
   rest-sound : (before : List ℕ) (ts : List Term) (k : ℕ) → length before ≡ termBytes kind * k → AllWithin kind ts → AllSound kind ts
       → brokenFrom kind (before ++ packTable kind ts) k (length ts) ≡ 0

@@ -2,7 +2,7 @@
 use Prim.Native.Nat.{ℕ, _*_, _/_, _^_, _≤_, _<_}
 use mathlib.Core.Path.{_≡_}
 use mathlib.Core.List.{List, [], _∷_}
-use Rattle.kind.specs.Kind.{byKind, termBytes}
+use Rattle.kind.specs.Kind.{termBytes, longest}
 use Rattle.term.specs.declared.Term.{Term}
 use Rattle.term.specs.Packed.{plainFactor}
 
@@ -43,7 +43,7 @@ pub record Plain (term : Term) : Type 0 where
 -- a sound length: whole terms, 1 to 64 of them
 pub record Whole (kind bytes : ℕ) : Type 0 where
   pub some : termBytes kind ≤ bytes
-  pub most : bytes ≤ byKind kind 576 768
+  pub most : bytes ≤ longest kind
   pub whole : termBytes kind * (bytes / termBytes kind) ≡ bytes
 
 -- a term fits the record of its kind, and every term of a list does

@@ -5,7 +5,7 @@ use mathlib.Core.List.{List}
 use mathlib.Core.Bool.{Bool, cond, _&&_}
 use lib.ListN.{length}
 use lib.Dec.{leb, ltb, eqb}
-use Rattle.kind.specs.Kind.{byKind, termBytes}
+use Rattle.kind.specs.Kind.{termBytes, longest}
 use Rattle.term.specs.declared.Term.{Term}
 use Rattle.term.specs.declared.Table.{Table}
 use Rattle.term.specs.declared.Table.the-variants.{Sound, Length, Broken}
@@ -29,7 +29,7 @@ soundAt kind table k = soundTerm kind (termAt kind table k) && eqb (spareAt kind
 
 -- a table has 9 to 576 bytes, a multiple of 9; or 12 to 768, a multiple of 12
 unfoldable pub soundLength : ℕ → ℕ → Bool
-soundLength kind bytes = leb (termBytes kind) bytes && leb bytes (byKind kind 576 768) && eqb (bytes % termBytes kind) 0
+soundLength kind bytes = leb (termBytes kind) bytes && leb bytes (longest kind) && eqb (bytes % termBytes kind) 0
 
 -- the place, counted from 1, of the first of n terms from the k-th that breaks a rule; 0 if none does
 unfoldable pub brokenFrom : ℕ → List ℕ → ℕ → ℕ → ℕ

@@ -2,7 +2,7 @@
 use native.Mathlib.Omega.{arith}
 use mathlib.Core.Bool.{and-false}
 use borrow.Author.Tests.{le-leb, lt-leb}
-use Rattle.kind.specs.Kind.{byKind, termBytes}
+use Rattle.kind.specs.Kind.{termBytes, longest}
 use Rattle.term.specs.Sound.{soundLength}
 use Rattle.term.proofs.Rules.{some-bytes, few-bytes, most-bytes}
 use borrow.Author.Needs.{needs}
@@ -30,14 +30,14 @@ unfolding soundLength
 returns-2 c =
     let s = c .before .before in
     let a = s .before .args in
-    simp (lt-leb (a .bytes) (byKind (a .kind) 576 768) (omega (arith, s .term-bytes .ensures, most-bytes (a .kind))), and-false)
+    simp (lt-leb (a .bytes) (longest (a .kind)) (omega (arith, s .term-bytes .ensures, most-bytes (a .kind))), and-false)
 
 returns-3 : tie.Need-returns-3
 unfolding soundLength
 returns-3 c =
     let s = c .before .before in
     let a = s .before .args in
-    rw (le-leb (termBytes (a .kind)) (a .bytes) (omega (arith, s .term-bytes .ensures)), le-leb (a .bytes) (byKind (a .kind) 576 768) (omega (arith, s .term-bytes .ensures, most-bytes (a .kind))), s .term-bytes .ensures)
+    rw (le-leb (termBytes (a .kind)) (a .bytes) (omega (arith, s .term-bytes .ensures)), le-leb (a .bytes) (longest (a .kind)) (omega (arith, s .term-bytes .ensures, most-bytes (a .kind))), s .term-bytes .ensures)
 
 pub sound-length-spec : {M : Type 1} → statement M
 sound-length-spec =
