@@ -9,15 +9,15 @@ from second import equation, f64
 from second.bench import NO_KIND, kind_of, lines, width_of
 from second.bracket import Bracket
 from second.convert import lengthen
-from second.equation import phase, pressure
 from second.exact import fraction
 from second.kind import KINDS, NINE, TWELVE
 from second.sheet import ZERO, exact
-from second.term import Term, packed, terms_of
+from second.term import Term, packed
 from second.tests import samples
 from second.tests.samples import (INFINITY, NAN, NEGATIVE, WRONG_KINDS, WRONG_WIDTHS, above, at_each_kind,
                                   at_each_width, table4, table5, under)
-from second.tests.test_verdicts import AT_ZERO, BELOW_ZERO, CEILINGS, EASY, NONE, Ceiling
+from second.tests.test_verdicts import (AT_ZERO, BELOW_ZERO, CEILINGS, EASY, NONE, Ceiling, both_sides_of_a_ceiling,
+                                        second_term_broken)
 from second.verdict import WIDTHS, Answer, density_check, pair_check, state_sheet
 
 W = f64.word
@@ -131,25 +131,12 @@ def test_term_line(width):
                       ({"magnitude": 10 ** 17}, {"magnitude": 10 ** 17 + 1}), ({"c": 0, "factor": 0}, {"spare": 1023})):
         passing, failing = (EASIER + packed(TWELVE, sound._replace(**fields)) for fields in (good, bad))
         assert numbers(width, 58, passing, *state) == (0, 0), good
-        assert state_sheet(width, 58, failing, *state) == Answer(2, 2, (0,) * 4), bad
-        assert density_check(width, 58, failing, *state, 0, 0) == Answer(2, 2, (0, 0))
-        assert pair_check(width, 58, failing, *state, NAN, NAN, NAN) == Answer(2, 2, (0, 0))
+        second_term_broken(width, 58, failing, *state)
 
 
 @at_each_width
 def test_ceiling_line(width):
-    T, rho, _, next_end, _ = CEILINGS_58[width]
-    at, over = CEILINGS_58[width].tables()
-    for table, end in ((at, HIGH), (over, next_end)):
-        reading = pressure(phase(width, terms_of(TWELVE, table), f64.exact(T), f64.exact(rho)))
-        assert fraction(exact(reading.upper)) == end
-    answer = state_sheet(width, 58, at, T, rho)
-    assert answer.number == 0 and answer.ends[1] == W(25e9)
-    answer = density_check(width, 58, at, T, rho, W(25e9), WIDE)
-    assert answer.number == 0 and answer.ends[1] == W(25e9)
-    assert state_sheet(width, 58, over, T, rho) == Answer(8, 0, (0,) * 4)
-    assert density_check(width, 58, over, T, rho, W(25e9), WIDE) == Answer(8, 0, (0, 0))
-    assert pair_number(width, 58, at, T, rho, RHO) == 9 and pair_number(width, 58, over, T, rho, RHO) == 8
+    both_sides_of_a_ceiling(width, CEILINGS_58[width], HIGH)
     # the other kind's ceiling is none here
     old = CEILINGS[width]
     for table in old.tables():

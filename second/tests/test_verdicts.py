@@ -141,6 +141,13 @@ def test_table_line(width):
     assert density_check(width, 38, b"", NAN, NAN, NAN, NAN) == Answer(1, 0, (0, 0))
 
 
+def second_term_broken(width, kind, table, T, rho):
+    """2 with its place, from each of the three."""
+    assert state_sheet(width, kind, table, T, rho) == Answer(2, 2, (0,) * 4)
+    assert density_check(width, kind, table, T, rho, 0, 0) == Answer(2, 2, (0, 0))
+    assert pair_check(width, kind, table, T, rho, NAN, NAN, NAN) == Answer(2, 2, (0, 0))
+
+
 @at_each_width
 def test_term_line(width):
     for field, good, bad in (("t", 24, 25), ("magnitude", 10 ** 17, 10 ** 17 + 1), ("d", 1, 0), ("magnitude", 1, 0)):
@@ -148,25 +155,26 @@ def test_term_line(width):
         passing, failing = (EASY + packed(NINE, term._replace(**{field: x})) for x in (good, bad))
         state = (W(1273.0), W(2.0 ** -10))
         assert numbers(width, passing, *state) == (0, 0)
-        assert state_sheet(width, 38, failing, *state) == Answer(2, 2, (0,) * 4)
-        assert density_check(width, 38, failing, *state, 0, 0) == Answer(2, 2, (0, 0))
-        assert pair_check(width, 38, failing, *state, NAN, NAN, NAN) == Answer(2, 2, (0, 0))
+        second_term_broken(width, 38, failing, *state)
+
+
+def both_sides_of_a_ceiling(width, ceiling, most):
+    T, rho, _, next_end, kind = ceiling
+    at, over = ceiling.tables()
+    for table, end in ((at, most), (over, next_end)):
+        reading = pressure(phase(width, terms_of(kind, table), f64.exact(T), f64.exact(rho)))
+        assert fraction(exact(reading.upper)) == end
+    name, top = kind.number, W(float(most))
+    for answer in (state_sheet(width, name, at, T, rho), density_check(width, name, at, T, rho, top, WIDE)):
+        assert answer.number == 0 and answer.ends[1] == top
+    assert state_sheet(width, name, over, T, rho) == Answer(8, 0, (0,) * 4)
+    assert density_check(width, name, over, T, rho, top, WIDE) == Answer(8, 0, (0, 0))
+    assert [pair_check(width, name, table, T, rho, W(1.0), WIDE, WIDE).number for table in (at, over)] == [9, 8]
 
 
 @at_each_width
 def test_ceiling_line(width):
-    T, rho, _, next_end, _ = CEILINGS[width]
-    at, over = CEILINGS[width].tables()
-    for table, end in ((at, 10 ** 9), (over, next_end)):
-        reading = pressure(phase(width, terms_of(NINE, table), f64.exact(T), f64.exact(rho)))
-        assert fraction(exact(reading.upper)) == end
-    answer = state_sheet(width, 38, at, T, rho)
-    assert answer.number == 0 and answer.ends[1] == W(1e9)
-    answer = density_check(width, 38, at, T, rho, W(1e9), W(1e6))
-    assert answer.number == 0 and answer.ends[1] == W(1e9)
-    assert state_sheet(width, 38, over, T, rho) == Answer(8, 0, (0,) * 4)
-    assert density_check(width, 38, over, T, rho, W(1e9), W(1e6)) == Answer(8, 0, (0, 0))
-    assert pair_number(width, at, T, rho, W(1.0)) == 9 and pair_number(width, over, T, rho, W(1.0)) == 8
+    both_sides_of_a_ceiling(width, CEILINGS[width], 10 ** 9)
 
 
 @at_each_width

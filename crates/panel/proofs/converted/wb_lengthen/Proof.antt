@@ -1,6 +1,5 @@
--- `panel::converted::wb_lengthen` meets its contract: the values of the answer, and the one at the choice. Assumes nothing.
-use mathlib.Core.Path.{refl, ap, _∙_}
-use lib.ListN.{getD}
+-- `panel::converted::wb_lengthen` meets its contract. Assumes nothing.
+use mathlib.Core.Path.{refl}
 use borrow.Author.Needs.{needs}
 use Rattle.panel.proofs.converted.wb_lengthen.Statement.{statement}
 use Rattle.panel.proofs.converted.wb_lengthen.Tie as tie
@@ -8,32 +7,16 @@ use Rattle.panel.proofs.converted.wb_lengthen.Tie as tie
 lengthen-requires : tie.Need-lengthen-requires
 lengthen-requires c κs = search needs
 
-converted-values-requires : tie.Need-converted-values-requires
-converted-values-requires c κs = search needs
-
-slice-aggregate-at : tie.Need-slice-aggregate-at
-slice-aggregate-at c = search needs
-
-at-requires : tie.Need-at-requires
-at-requires c κs = search needs
+chosen-requires : tie.Need-chosen-requires
+chosen-requires c κs = search needs
 
 same-length : tie.Need-same-length
 same-length c = search needs
 
 returns : tie.Need-returns
 returns c =
-    let v = c .before .before in
-    let call = v .before .before .before in
-    let choice = call .before .before .before .before .args .choice in
-    (record { answer = call .lengthen .result; says = call .lengthen .ensures .0; value = c .at .ensures ∙ ap (λ l. getD l choice 0) (v .converted-values .ensures) }, refl)
+    let call = c .before .before .before in
+    (record { answer = call .lengthen .result; says = call .lengthen .ensures .0; value = c .chosen .ensures }, refl)
 
 pub wb-lengthen-spec : {M : Type 1} → statement M
-wb-lengthen-spec =
-    tie.close
-    (tie.spec
-    lengthen-requires
-    converted-values-requires
-    slice-aggregate-at
-    at-requires
-    same-length
-    returns)
+wb-lengthen-spec = tie.close (tie.spec lengthen-requires chosen-requires same-length returns)
