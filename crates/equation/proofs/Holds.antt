@@ -58,6 +58,9 @@ power-held {v} w b (suc n) low high e = combined-held w _⊗_ (ends (power (suc 
 
 -- ---- delta, tau and their powers
 
+pub factor-held : {v : ℕ} → Width v → (n : ℕ) → 0 < n → n ≤ 1023 → Held v (given (suc v) (hundredths n))
+factor-held {v} w n some few = let r = room in given-held w (hundredths n) (omega arith) (omega arith) (plus-digits (factor-plus v n some few))
+
 module _ {v : ℕ} (a : Bracket) (p : DeltaIn v a) where
   delta-width : Width v
   delta-width = p .held .lo .width
@@ -69,9 +72,6 @@ module _ {v : ℕ} (a : Bracket) (p : DeltaIn v a) where
   delta-powers n few = record { base = p .held; each = λ k l. delta-power-held k (omega arith) }
 
   -- g of a term
-  pub factor-held : (n : ℕ) → 0 < n → n ≤ 1023 → Held v (given (suc v) (hundredths n))
-  factor-held n some few = let r = room in given-held delta-width (hundredths n) (omega arith) (omega arith) (plus-digits (factor-plus v n some few))
-
   pub g-in : (c factor : ℕ) → c ≤ 15 → (0 < c → 0 < factor) → factor ≤ 1023 → GIn v (gOf (suc v) c factor a)
   unfolding scaled
   g-in zero factor most some few =

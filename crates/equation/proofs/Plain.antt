@@ -80,29 +80,25 @@ power-spelled v b (suc n) = rounded-spelled v (over _⊗_ (ends (power (suc v) b
 
 -- ---- g by its cases: the power of delta for c = 0 and for factor 100
 
-pub none-g : (w c factor : ℕ) (b : Bracket) → c ≡ 0 → power w b c ≡ gOf w c factor b
+pub none-scaled : (w c factor : ℕ) (b : Bracket) → c ≡ 0 → b ≡ scaled w c factor b
 unfolding scaled
-none-g w zero factor b z = refl
-none-g w (suc c) factor b z = absurd (omega arith)
+none-scaled w zero factor b z = refl
+none-scaled w (suc c) factor b z = absurd (omega arith)
 
-pub some-g : (w c factor : ℕ) (b : Bracket) → 0 < c → times w (ends (given w (hundredths factor))) (ends (power w b c)) ≡ gOf w c factor b
+pub some-scaled : (w c factor : ℕ) (b : Bracket) → 0 < c → times w (ends (given w (hundredths factor))) (ends b) ≡ scaled w c factor b
 unfolding scaled
-some-g w zero factor b p = absurd (omega arith)
-some-g w (suc c) factor b p = refl
+some-scaled w zero factor b p = absurd (omega arith)
+some-scaled w (suc c) factor b p = refl
 
-pub hundred-g : (v c factor : ℕ) (b : Bracket) → factor ≡ 100 → power (suc v) b c ≡ gOf (suc v) c factor b
+pub hundred-scaled : (v c factor : ℕ) (b : Bracket) → Ends (Spelled v) b → Ordered (ends b) → factor ≡ 100 → b ≡ scaled (suc v) c factor b
 unfolding scaled
-hundred-g v zero factor b e = refl
-hundred-g v (suc c) factor b e =
-    rw e
-    (sym
-    (times-≃ v (one-point v) (≃-refl (ends (power (suc v) b (suc c))))
-    ∙ one-times v (power (suc v) b (suc c)) (power-spelled v b (suc c)) (power-ordered v b (suc c))))
+hundred-scaled v zero factor b s o e = refl
+hundred-scaled v (suc c) factor b s o e = rw e (sym (times-≃ v (one-point v) (≃-refl (ends b)) ∙ one-times v b s o))
 
 plain-g : (v c factor : ℕ) (b : Bracket) → factor ≡ plainFactor c → gOf (suc v) c factor b ≡ power (suc v) b c
 unfolding plainFactor
-plain-g v zero factor b e = sym (none-g (suc v) zero factor b refl)
-plain-g v (suc c) factor b e = sym (hundred-g v (suc c) factor b e)
+plain-g v zero factor b e = sym (none-scaled (suc v) zero factor (power (suc v) b zero) refl)
+plain-g v (suc c) factor b e = sym (hundred-scaled v (suc c) factor (power (suc v) b (suc c)) (power-spelled v b (suc c)) (power-ordered v b (suc c)) e)
 
 -- ---- E is the plain one where g's upper end is at most 128
 

@@ -3,22 +3,20 @@ use bracket::Bracket;
 use sheet::Sheet;
 use term::Term;
 ghost use mathlib.Core.Path.{_≡_};
-ghost use Prim.Native.Nat.{suc};
+ghost use Prim.Native.Nat.{suc, _<_, _≤_};
 ghost use Rattle.term.specs.Bounds.{Bounds};
 ghost use Rattle.exact.specs.Fraction.{nat, leq};
 ghost use Rattle.sheet.specs.Number.{value};
-ghost use Rattle.equation.specs.Rules.{gOf, factorE};
+ghost use Rattle.bracket.specs.Held.{Held};
+ghost use Rattle.equation.specs.Rules.{scaled, gOf, factorE};
 ghost use Rattle.equation.specs.Clip.{clipAt, exponentOf, startedAt};
 ghost use Rattle.equation.specs.Ranged.{DeltaIn, GIn};
 
-// g, the factor times delta^c. For c = 0 no factor enters, and 100 hundredths are 1, which changes no bracket.
-pub fn factor_g(v: u64, term: Term, delta: Bracket) -> Bracket
-    requires { ⌜ Bounds term × DeltaIn v delta ⌝ }
-    ensures { λ r. ⌜ r ≡ gOf (suc v) (term .c) (term .factor) delta ⌝ }
+// g by the power of delta: the factor times it. For c = 0 no factor enters, and 100 hundredths are 1, which changes no bracket.
+pub fn scale(v: u64, c: u64, factor: u64, power: Bracket) -> Bracket
+    requires { ⌜ Held v power × ((0 < c → 0 < factor) × (factor ≤ 1023)) ⌝ }
+    ensures { λ r. ⌜ r ≡ scaled (suc v) c factor power ⌝ }
 {
-    let c = term.c;
-    let factor = term.factor;
-    let power = bracket::power(v, delta, c);
     if c == 0 {
         return power;
     }
@@ -26,6 +24,16 @@ pub fn factor_g(v: u64, term: Term, delta: Bracket) -> Bracket
         return power;
     }
     bracket::product(v, bracket::given_ratio(v, false, factor, 100), power)
+}
+
+// g of a term, the factor times delta^c.
+pub fn factor_g(v: u64, term: Term, delta: Bracket) -> Bracket
+    requires { ⌜ Bounds term × DeltaIn v delta ⌝ }
+    ensures { λ r. ⌜ r ≡ gOf (suc v) (term .c) (term .factor) delta ⌝ }
+{
+    let c = term.c;
+    let factor = term.factor;
+    scale(v, c, factor, bracket::power(v, delta, c))
 }
 
 // The smaller of 128 and g's lower end.

@@ -16,7 +16,7 @@ ghost use Rattle.term.specs.Sound.{soundTable};
 ghost use Rattle.equation.specs.Rules.{addends, plusEach, noSums, sums};
 ghost use Rattle.equation.specs.Ranged.{DeltaIn, TauIn, AllHeld};
 
-fn no_sums(v: u64) -> Sums
+pub fn no_sums(v: u64) -> Sums
     requires { ⌜ Width v ⌝ }
     ensures { λ r. ⌜ r ≡ noSums (suc v) ⌝ }
 {
@@ -28,7 +28,7 @@ fn no_sums(v: u64) -> Sums
     }
 }
 
-fn plus_each(v: u64, s: Sums, a: Sums) -> Sums
+pub fn plus_each(v: u64, s: Sums, a: Sums) -> Sums
     requires { ⌜ AllHeld v s × AllHeld v a ⌝ }
     ensures { λ r. ⌜ r ≡ plusEach (suc v) s a ⌝ }
 {

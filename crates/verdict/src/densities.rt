@@ -27,7 +27,7 @@ ghost use Rattle.verdict.specs.Statement.{DensityStated};
 ghost use Rattle.verdict.specs.Handed.{Handy};
 
 // 8, 9 and 11, by the brackets of pressure, of pressure less target, and of stiffness.
-fn worked(kind: u64, p: Bracket, gap: Bracket, s: Bracket, tolerance: f64) -> Answer
+pub fn worked(kind: u64, p: Bracket, gap: Bracket, s: Bracket, tolerance: f64) -> Answer
     requires { ⌜ (Handy p × Handy gap) × (Handy s × T (finite tolerance)) ⌝ }
     ensures { λ r. ⌜ r ≡ firstFailing (densityWorked kind p gap s tolerance) (Accepted (handedOut p)) ⌝ }
     ensures { λ r. ⌜ AnswerNumbers r ⌝ }

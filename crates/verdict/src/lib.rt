@@ -4,13 +4,14 @@
 mod widths; // widths.rt: which widths there are
 mod handed; // handed.rt: ends handed out, and their tests
 mod phases; // phases.rt: one phase in one pass over the table
-mod densities; // densities.rt: the density check
-mod pairs; // pairs.rt: the pair check
-mod sheets; // sheets.rt: the state sheet
+pub mod densities; // densities.rt: the density check
+pub mod pairs; // pairs.rt: the pair check
+pub mod sheets; // sheets.rt: the state sheet
 
 pub use densities::density_check;
 pub use pairs::pair_check;
 pub use sheets::state_sheet;
+pub use widths::sound_width;
 
 // A state: temperature in K, density in kg/m3.
 pub struct State {

@@ -89,7 +89,7 @@ fn balanced(gibbs: Bracket, l: Bracket, v: Bracket, gibbs_tolerance: f64, q: Bra
 }
 
 // 8, 21 and 9, by the brackets of the two pressures and of their gap, and what follows.
-fn judged(
+pub fn judged(
     kind: u64,
     p: Bracket,
     q: Bracket,

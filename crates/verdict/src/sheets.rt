@@ -21,7 +21,7 @@ ghost use Rattle.verdict.specs.Statement.{StateStated};
 ghost use Rattle.verdict.specs.Handed.{Handy};
 
 // 8, then the ends.
-fn worked(kind: u64, pressure: Bracket, stiffness: Bracket) -> SheetAnswer
+pub fn worked(kind: u64, pressure: Bracket, stiffness: Bracket) -> SheetAnswer
     requires { ⌜ Handy pressure × Handy stiffness ⌝ }
     ensures { λ r. ⌜ r ≡ firstFailing (stateWorked kind pressure) (Answered (handedOut pressure) (handedOut stiffness)) ⌝ }
     ensures { λ r. ⌜ SheetNumbers r ⌝ }

@@ -1,0 +1,79 @@
+// The three sums at one density: one pass over the rows, from zero, left to right.
+use bracket::Bracket;
+use crate::kept::Kept;
+use crate::kept::kept_for;
+use crate::kept::no_kept;
+use crate::powers::powers;
+use crate::ready::Ready;
+use crate::ready::Row;
+use equation::Sums;
+ghost use mathlib.Core.Path.{_≡_};
+ghost use mathlib.Core.Bool.{true};
+ghost use Prim.Native.Nat.{suc};
+ghost use lib.Dec.{T};
+ghost use Rattle.sheet.specs.Range.{Width};
+ghost use Rattle.kind.specs.Kind.{widest};
+ghost use Rattle.doubles.specs.Double.{exactOf};
+ghost use Rattle.doubles.specs.Range.{acceptedTemperature, acceptedDensity};
+ghost use Rattle.term.specs.Sound.{soundTable};
+ghost use Rattle.equation.specs.Rules.{plusEach, sums};
+ghost use Rattle.equation.specs.Ranged.{AllHeld};
+ghost use Rattle.quick.specs.Kept.{valueBy, addendsBy, Valued, Addable};
+ghost use Rattle.quick.specs.Ready.{ReadyFor};
+
+// V
+fn value(v: u64, coefficient: Bracket, delta: Bracket, tau: Bracket, e: Bracket) -> Bracket
+    requires { ⌜ Valued v coefficient delta tau e ⌝ }
+    ensures { λ r. ⌜ r ≡ valueBy (suc v) coefficient delta tau e ⌝ }
+{
+    let by_delta = bracket::product(v, coefficient, delta);
+    let by_tau = bracket::product(v, by_delta, tau);
+    bracket::product(v, by_tau, e)
+}
+
+fn addends(v: u64, coefficient: Bracket, delta: Bracket, tau: Bracket, kept: Kept) -> Sums
+    requires { ⌜ Addable v coefficient delta tau kept ⌝ }
+    ensures { λ r. ⌜ r ≡ addendsBy (suc v) coefficient delta tau kept ⌝ }
+{
+    let s0 = value(v, coefficient, delta, tau, kept.e);
+    let s1 = bracket::product(v, s0, kept.w);
+    let s2 = bracket::product(v, s0, kept.s2);
+    Sums { s0, s1, s2 }
+}
+
+// The sums with a row's addends, by its power of delta.
+fn add_row(v: u64, row: Row, delta: Bracket, kept: Kept, s: Sums) -> Sums
+    requires { ⌜ Addable v (row .coefficient) delta (row .tau) kept × AllHeld v s ⌝ }
+    ensures { λ r. ⌜ r ≡ plusEach (suc v) s (addendsBy (suc v) (row .coefficient) delta (row .tau) kept) ⌝ }
+{
+    let coefficient = row.coefficient;
+    let tau = row.tau;
+    let a = addends(v, coefficient, delta, tau, kept);
+    equation::plus_each(v, s, a)
+}
+
+pub fn sums_of(v: u64, kind: u64, table: &[u8], ready: Ready, rho: f64) -> Sums
+    requires { ⌜ Width v × (soundTable kind (now table) ≡ true) × ReadyFor (suc v) kind (now table) ready ⌝ }
+    requires { ⌜ T (acceptedTemperature widest (ready .t)) × T (acceptedDensity widest rho) ⌝ }
+    ensures { λ r. ⌜ r ≡ sums (suc v) kind (now (table .entry)) (exactOf (ready .t)) (exactOf rho) ⌝ }
+{
+    let deltas = powers(v, equation::delta(v, rho), ready.far);
+    let rows = ready.rows;
+    let count = term::count_terms(kind, table);
+    let mut kept = no_kept();
+    let mut s = equation::no_sums(v);
+    let mut i: usize = 0;
+    while i < count {
+        let row = rows[i];
+        let term = row.term;
+        let like = row.like;
+        let same = row.same;
+        let c = term.c as usize;
+        let d = term.d as usize;
+        let own = kept_for(v, i, row, kept[like], kept[same], deltas[c]);
+        kept[i] = own;
+        s = add_row(v, row, deltas[d], own, s);
+        i += 1;
+    }
+    s
+}
