@@ -1,13 +1,13 @@
 -- Laws of fields of a list of bytes: their bounds, how two neighbours join, and that a field lies in the bytes that hold it.
 -- Assumes nothing.
 use Prim.Native.Nat.{ℕ, suc, _+_, _-_, _*_, _/_, _%_, _^_, _≤_, _<_}
-use mathlib.Core.Path.{_≡_, refl, ap, _∙_}
+use mathlib.Core.Path.{_≡_, refl, sym, ap, _∙_}
 use mathlib.Core.List.{List, [], _∷_, _++_, map, map-append}
 use native.Mathlib.Omega.{arith}
-use native.Mathlib.Nat.{mod-lt}
+use native.Mathlib.Nat.{mod-lt, lt-of-lt-of-le}
 use lib.ListN.{length, getD, take, drop, length-append}
 use lib.Seq.{split-at, getD-drop, length-take-le}
-use lib.Pow.{pow-pos, mod-pow-add, shr-shr}
+use lib.Pow.{pow-pos, pow-mono, mod-pow-add, shl-shr, shr-shr, field as cut}
 use Rattle.term.specs.Pieces.{wide, joined, Fit}
 use Rattle.term.specs.Bits.{eight, number, field, Bytes}
 use Rattle.term.proofs.Joined.{joined-cut}
@@ -15,6 +15,10 @@ use Rattle.term.proofs.Joined.{joined-cut}
 pub field-below : (bytes : List ℕ) (first bits : ℕ) → field bytes first bits < 2 ^ bits
 unfolding field
 field-below bytes first bits = mod-lt (number bytes / 2 ^ (8 * length bytes - (first + bits))) (pow-pos bits)
+
+-- there is room for so many bits behind it in 64
+pub field-room : (bytes : List ℕ) (first bits n : ℕ) → bits + n ≤ 64 → field bytes first bits < 2 ^ (64 - n)
+field-room bytes first bits n h = lt-of-lt-of-le (field-below bytes first bits) (pow-mono {i = bits} {j = 64 - n} (omega arith))
 
 -- two neighbouring fields, read as one
 pub field-join : (bytes : List ℕ) (first a b : ℕ) → first + (a + b) ≤ 8 * length bytes
@@ -46,25 +50,28 @@ field-within before bytes after first bits small h =
     rw (shift, map-append eight before (bytes ++ after), map-append eight bytes after)
     (joined-cut (map eight before) (map eight bytes) (map eight after) first bits e (fit-eight after small) (omega (arith, wide-eight bytes)))
 
--- a bit of one byte
-bit : (byte first : ℕ) → first < 8 → field (byte ∷ []) first 1 ≡ byte / 2 ^ (7 - first) % 2
+-- bits of one byte: shifted up, those before them fall out, and shifted down, those behind them
+piece : (byte first bits : ℕ) → first + bits ≤ 8 → field (byte ∷ []) first bits ≡ byte * 2 ^ first % 2 ^ 8 / 2 ^ (8 - bits)
 unfolding field number joined wide
-bit byte first h =
+piece byte first bits h =
+    let e : ℕ = 8 - (first + bits) in
     let all : byte * 1 + 0 ≡ byte = omega arith in
-    let shift : 8 - (first + 1) ≡ 7 - first = omega arith in
-    rw (all, shift)
+    let width : bits + (8 - bits) ≡ 8 = omega arith in
+    let down : first + e ≡ 8 - bits = omega arith in
+    let shifted : byte * 2 ^ first / 2 ^ (8 - bits) ≡ byte / 2 ^ e = rw (← down, ← shr-shr (byte * 2 ^ first) first e, shl-shr byte first) in
+    rw all (ap (λ (x : ℕ). x % 2 ^ bits) (sym shifted) ∙ sym (cut (byte * 2 ^ first) bits (8 - bits)) ∙ ap (λ (x : ℕ). byte * 2 ^ first % 2 ^ x / 2 ^ (8 - bits)) width)
 
--- the bit at a place is a bit of the byte that holds it
-pub field-bit : (s : List ℕ) (place : ℕ) → Bytes s → place < 8 * length s
-    → field s place 1 ≡ getD s (place / 8) 0 / 2 ^ (7 - place % 8) % 2
-field-bit s place small h =
+-- bits that one byte holds are bits of that byte
+pub field-piece : (s : List ℕ) (place bits : ℕ) → Bytes s → place < 8 * length s → place % 8 + bits ≤ 8
+    → field s place bits ≡ getD s (place / 8) 0 * 2 ^ (place % 8) % 2 ^ 8 / 2 ^ (8 - bits)
+field-piece s place bits small h k =
     let q : ℕ = place / 8 in
     let b : ℕ = getD s q 0 in
     let before : List ℕ = take q s in
     let after : List ℕ = drop (suc q) s in
     let whole : s ≡ before ++ (b ∷ after) = split-at s q 0 (omega arith) in
     let at : place ≡ 8 * length before + place % 8 = omega (arith, length-take-le q s (omega arith)) in
-    ap (λ (x : List ℕ). field x place 1) whole
-    ∙ (ap (λ (x : ℕ). field (before ++ (b ∷ after)) x 1) at
-    ∙ (field-within before (b ∷ []) after (place % 8) 1 (λ i. rw getD-drop (small (suc q + i))) (omega arith)
-    ∙ bit b (place % 8) (omega arith)))
+    ap (λ (x : List ℕ). field x place bits) whole
+    ∙ (ap (λ (x : ℕ). field (before ++ (b ∷ after)) x bits) at
+    ∙ (field-within before (b ∷ []) after (place % 8) bits (λ i. rw getD-drop (small (suc q + i))) (omega arith)
+    ∙ piece b (place % 8) bits k))

@@ -1,33 +1,40 @@
--- `term::bits::field` meets its contract. The loop's invariant: the value is the field of the bits passed. Assumes nothing.
+-- `term::bits::field` meets its contract. The loop's invariant: the value is the field of the bits passed, and a byte starts behind them if more
+-- are wanted. Assumes nothing.
 use borrow.Author.Needs.{needs}
 use native.Mathlib.Omega.{arith}
-use mathlib.Core.Path.{_≡_, ap, _∙_}
-use Prim.Native.Nat.{_≤_, _-_}
-use lib.Pow.{pow-mono}
+use mathlib.Core.Path.{_≡_}
+use Prim.Native.Nat.{_≤_, _+_, _-_, _%_, min}
+use lib.Pow.{pow-pos}
 use Rattle.term.specs.Bits.{field}
-use Rattle.term.proofs.Fields.{field-below, field-join}
+use Rattle.term.proofs.Fields.{field-room, field-join}
 use Rattle.term.proofs.bits.field.Statement.{statement}
 use Rattle.term.proofs.bits.field.Tie as tie
 
 abbrev Inv-loop : tie.InvT-loop
-Inv-loop bytes first count value₀ i₀ value i = (i ≤ count) × (value ≡ field bytes first i)
+Inv-loop bytes first count n value₀ i₀ value i = (i ≤ count) × (min ((first + i) % 8) (count - i) ≡ 0) × (value ≡ field bytes first i)
 
 abbrev μ-loop : tie.MeasureT-loop
-μ-loop bytes first count value₀ i₀ value i = count - i
+μ-loop bytes first count n value₀ i₀ value i = count - i
+
+at-hand-requires : tie.Need-at-hand-requires Inv-loop μ-loop
+at-hand-requires c κs = search needs
+
+more-requires : tie.Need-more-requires Inv-loop μ-loop
+more-requires c κs = omega (arith, pow-pos (64 - c .at-hand .result))
 
 loop-holds : tie.Need-loop-holds Inv-loop μ-loop
-loop-holds c =
-    let a = c .before .args in
-    omega (arith, field-below (a .bytes .now) (a .first) 0)
+loop-holds c = omega arith
 
-add-one-more : tie.Need-add-one-more Inv-loop μ-loop
-add-one-more c = search needs
+sub-loop : tie.Need-sub-loop Inv-loop μ-loop
+sub-loop c = search needs
 
-one-more-requires : tie.Need-one-more-requires Inv-loop μ-loop
-one-more-requires c κs =
-    let a = c .before .before .before .args in
-    let i = c .before .loop .i in
-    omega (arith, field-below (a .bytes .now) (a .first) i, pow-mono {i = i} {j = 63} (omega arith))
+add-more : tie.Need-add-more Inv-loop μ-loop
+add-more c = search needs
+
+more-requires-2 : tie.Need-more-requires-2 Inv-loop μ-loop
+more-requires-2 c κs =
+    let a = c .before .before .before .before .before .args in
+    omega (arith, field-room (a .bytes .now) (a .first) (c .before .loop .i) 8 (omega arith))
 
 add-i : tie.Need-add-i Inv-loop μ-loop
 add-i c = search needs
@@ -37,14 +44,27 @@ loop-less c = search needs
 
 loop-again : tie.Need-loop-again Inv-loop μ-loop
 loop-again c =
-    let a = c .before .before .before .before .args in
-    omega (arith, field-join (a .bytes .now) (a .first) (c .before .before .loop .i) 1 (omega arith))
+    let a = c .before .before .before .before .before .before .args in
+    omega (arith, field-join (a .bytes .now) (a .first) (c .before .before .loop .i) 8 (omega arith))
+
+add-more-2 : tie.Need-add-more-2 Inv-loop μ-loop
+add-more-2 c = search needs
+
+sub-more : tie.Need-sub-more Inv-loop μ-loop
+sub-more c = search needs
+
+more-requires-3 : tie.Need-more-requires-3 Inv-loop μ-loop
+more-requires-3 c κs =
+    let a = c .before .before .before .before .before .args in
+    let i = c .before .loop .i in
+    omega (arith, field-room (a .bytes .now) (a .first) i (a .count - i) (omega arith))
 
 returns : tie.Need-returns Inv-loop μ-loop
 returns c =
-    let a = c .before .before .before .args in
-    let whole : c .before .loop .i ≡ a .count = omega arith in
-    c .before .loop .inv .1 ∙ ap (field (a .bytes .now) (a .first)) whole
+    let a = c .before .before .before .before .before .before .args in
+    let l = c .before .before .loop in
+    let whole : l .i + (a .count - l .i) ≡ a .count = omega arith in
+    rw (c .more3 .ensures, l .inv .2, ← field-join (a .bytes .now) (a .first) (l .i) (a .count - l .i) (omega arith), whole)
 
 pub field-spec : {M : Type 1} → statement M
 field-spec =
@@ -52,10 +72,16 @@ field-spec =
     (tie.spec
     Inv-loop
     μ-loop
+    at-hand-requires
+    more-requires
     loop-holds
-    add-one-more
-    one-more-requires
+    sub-loop
+    add-more
+    more-requires-2
     add-i
     loop-less
     loop-again
+    add-more-2
+    sub-more
+    more-requires-3
     returns)
