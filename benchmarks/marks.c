@@ -1,6 +1,7 @@
-/* marks WIDTH TABLE PAIRS: times the library's code against the same rules on MPFR at a width of 32 or 53 bits, in one process
-   and on the same inputs: single operations, exponentials, states by number of terms, pairs.  TABLE is Table 5 packed; PAIRS has
-   f64s as this machine spells them: T, liquid, vapour.  Prints a line for each; on an emulator only the ratios say something. */
+/* marks WIDTH TABLE5 PAIRS5 TABLE4 PAIRS4: times the library's code against the same rules on MPFR at a width of 32 or 53 bits, in one
+   process and on the same inputs: single operations, exponentials, and for each kind of table states by number of terms, and pairs, by
+   both engines.  TABLE5 and TABLE4 are the paper's tables packed, of kind 38 and of kind 58; PAIRS has f64s as this machine spells
+   them: T, liquid, vapour.  Prints a line for each; on an emulator only the ratios say something. */
 #include <stdio.h>
 #include <stdlib.h>
 #include <string.h>
@@ -8,7 +9,17 @@
 #include "measure.h"
 #include "mpfr_equation.h"
 
-enum { BIAS = 262144, OPERANDS = 512, DENSITIES = 16, ARGUMENTS = 3 * DENSITIES, KIND = 38, ROWS = 38, ROW = 9, PAIRS = 1000 };
+enum { BIAS = 262144, OPERANDS = 512, DENSITIES = 16, ARGUMENTS = 3 * DENSITIES, PAIRS = 1000, MOST = 64, LONGEST = 12 };
+
+/* The library's engines, and the peer's ways. */
+enum { QUICK, PLAIN };
+enum { STOPS = 1, ONCE = 2 };
+
+static void take_way(int way)
+{
+    peer_stops = way & STOPS;
+    peer_once = way & ONCE;
+}
 
 /* A number's digits and place, which both sides add up over all results. */
 static uint64_t digits_and_place(mpfr_srcptr x)
@@ -58,18 +69,20 @@ typedef struct {
     int (*operation)(mpfr_ptr, mpfr_srcptr, mpfr_srcptr, mpfr_rnd_t);
 } single;
 
-static uint64_t library_single(const void *argument)
+static uint64_t library_single(const void *argument, int way)
 {
     const single *s = argument;
+    (void)way;
     return marks_single(peer_bits, s->number, s->up, words, 6 * OPERANDS);
 }
 
-static uint64_t peer_single(const void *argument)
+static uint64_t peer_single(const void *argument, int way)
 {
     const single *s = argument;
     mpfr_rnd_t direction = s->up ? MPFR_RNDU : MPFR_RNDD;
     uint64_t total = 0;
     BRACKET(r); /* one of its ends */
+    (void)way;
     for (size_t i = 0; i < 2 * OPERANDS; i += 2) {
         s->operation(r.lo, numbers[i], numbers[i + 1], direction);
         total += digits_and_place(r.lo);
@@ -85,7 +98,7 @@ static void measure_singles(void)
                                    {2, 0, mpfr_mul}, {2, 1, mpfr_mul}, {3, 0, mpfr_div}, {3, 1, mpfr_div}};
     make_operands();
     for (size_t i = 0; i < sizeof kinds / sizeof *kinds; i++)
-        measure(&(work){names[i], OPERANDS, library_single, peer_single, 0, &kinds[i]});
+        measure(&(work){names[i], OPERANDS, {{library_single, 0}, {peer_single, 0}}, &kinds[i]});
 }
 
 /* Exponentials of minus delta, delta squared and delta cubed, at densities even from one to another. */
@@ -119,17 +132,19 @@ static void make_arguments(arguments *a, double from, double to)
     }
 }
 
-static uint64_t library_exponentials(const void *argument)
+static uint64_t library_exponentials(const void *argument, int way)
 {
     const arguments *a = argument;
+    (void)way;
     return marks_exponential(peer_bits, a->words, 6 * ARGUMENTS);
 }
 
-static uint64_t peer_exponentials(const void *argument)
+static uint64_t peer_exponentials(const void *argument, int way)
 {
     const arguments *a = argument;
     uint64_t total = 0;
     BRACKET(r);
+    take_way(way);
     for (int i = 0; i < ARGUMENTS; i++) {
         peer_exponential(&r, &a->powers[i]);
         total += digits_and_place(r.lo) + digits_and_place(r.hi);
@@ -137,114 +152,117 @@ static uint64_t peer_exponentials(const void *argument)
     return total;
 }
 
-/* The same peer, with the stop. */
-static uint64_t stopping(uint64_t (*peer)(const void *), const void *argument)
+static void measure_exponentials(const char *name, double from, double to)
 {
-    peer_stops = 1;
-    uint64_t total = peer(argument);
-    peer_stops = 0;
-    return total;
+    static arguments a;
+    make_arguments(&a, from, to);
+    measure(&(work){name, ARGUMENTS, {{library_exponentials, 0}, {peer_exponentials, 0}, {peer_exponentials, STOPS}}, &a});
 }
 
-static uint64_t stopping_exponentials(const void *argument)
-{
-    return stopping(peer_exponentials, argument);
-}
+/* A kind with its packed table, and 1,000 pairs of it. */
 
-static void measure_exponentials(void)
+typedef struct {
+    uint64_t kind;
+    size_t row, rows, count; /* bytes of a term; terms; pairs */
+    uint8_t bytes[MOST * LONGEST];
+    double pairs[PAIRS][3];
+} packed;
+
+/* Rows of a table at even steps, so that exponentials keep their share; where there are more, some stand there twice. */
+static packed of_terms(const packed *all, size_t count)
 {
-    static arguments thin, dense;
-    make_arguments(&thin, 1.0 / 1024, 322.0);
-    make_arguments(&dense, 322.0, 1287.0); /* the loops of crates/marks take x below 64 */
-    measure(&(work){"exponential, up to 322 kg/m3", ARGUMENTS, library_exponentials, peer_exponentials, stopping_exponentials, &thin});
-    measure(&(work){"exponential, from 322 kg/m3", ARGUMENTS, library_exponentials, peer_exponentials, stopping_exponentials, &dense});
+    packed t = {.kind = all->kind, .row = all->row, .rows = count};
+    for (size_t i = 0; i < count; i++)
+        memcpy(t.bytes + i * t.row, all->bytes + (i * all->rows + all->rows / 2) / count * t.row, t.row);
+    return t;
 }
 
 /* One state: thin steam, so that every table's answer is a pressure under the ceiling. */
 
-typedef struct {
-    uint8_t bytes[64 * ROW];
-    size_t length;
-} packed;
-
-static packed table5;
 static const double STEAM_T = 1000.0, STEAM_RHO = 1.0;
 
-/* Rows of Table 5 at even steps, so that exponentials keep their share; of 64 some stand there twice. */
-static packed of_terms(size_t count)
-{
-    packed t = {.length = count * ROW};
-    for (size_t i = 0; i < count; i++)
-        memcpy(t.bytes + i * ROW, table5.bytes + (i * ROWS + ROWS / 2) / count * ROW, ROW);
-    return t;
-}
-
-static uint64_t library_state(const void *argument)
+static uint64_t library_state(const void *argument, int engine)
 {
     const packed *t = argument;
-    return wb_state(peer_bits, KIND, t->bytes, t->length, STEAM_T, STEAM_RHO, 2);
+    return (engine == PLAIN ? mark_plain_state : wb_state)(peer_bits, t->kind, t->bytes, t->rows * t->row, STEAM_T, STEAM_RHO, 2);
 }
 
-static uint64_t peer_state_bits(const void *argument)
+static uint64_t peer_state_bits(const void *argument, int way)
 {
     const packed *t = argument;
-    peer_state_ends r;
-    peer_state(&r, KIND, t->bytes, t->length, STEAM_T, STEAM_RHO);
+    state_ends r;
+    take_way(way);
+    peer_state(&r, t->kind, t->bytes, t->rows * t->row, STEAM_T, STEAM_RHO);
     return bits_of(r.pressure[0]);
 }
 
-static uint64_t stopping_state_bits(const void *argument)
+static void measure_state(const packed *all, size_t count)
 {
-    return stopping(peer_state_bits, argument);
+    packed t = of_terms(all, count);
+    char name[32];
+    snprintf(name, sizeof name, "one state, %zu term%s", count, count == 1 ? "" : "s");
+    measure(&(work){name, 1, {{library_state, QUICK}, {library_state, PLAIN}, {peer_state_bits, 0}, {peer_state_bits, STOPS},
+                              {peer_state_bits, ONCE}, {peer_state_bits, ONCE | STOPS}}, &t});
 }
 
-static void measure_states(void)
+/* Pairs, with tolerances so wide that all are accepted: nothing is left out. */
+
+static uint64_t library_pairs(const void *argument, int engine)
 {
-    static const size_t counts[] = {1, 8, 38, 64};
-    for (size_t i = 0; i < sizeof counts / sizeof *counts; i++) {
-        packed t = of_terms(counts[i]);
-        char name[32];
-        snprintf(name, sizeof name, "one state, %zu term%s", counts[i], counts[i] == 1 ? "" : "s");
-        measure(&(work){name, 1, wb_state ? library_state : 0, peer_state_bits, stopping_state_bits, &t});
-    }
-}
-
-/* Pairs of Table 5, with tolerances so wide that all are accepted: nothing is left out. */
-
-static double pairs[PAIRS][3];
-
-static uint64_t library_pairs(const void *argument)
-{
+    const packed *t = argument;
     uint64_t total = 0;
-    for (size_t i = 0; i < *(const size_t *)argument; i++) {
-        const double *p = pairs[i];
-        total += wb_pair(peer_bits, KIND, table5.bytes, table5.length, p[0], p[1], p[2], 1e6, 1e6, 2);
+    for (size_t i = 0; i < t->count; i++) {
+        const double *p = t->pairs[i];
+        total += (engine == PLAIN ? mark_plain_pair : wb_pair)(peer_bits, t->kind, t->bytes, t->rows * t->row, p[0], p[1], p[2],
+                                                               1e6, 1e6, 2);
     }
     return total;
 }
 
-static uint64_t peer_pairs(const void *argument)
+static uint64_t peer_pairs(const void *argument, int way)
 {
+    const packed *t = argument;
     uint64_t total = 0;
-    for (size_t i = 0; i < *(const size_t *)argument; i++) {
-        const double *p = pairs[i];
-        peer_pair_ends r;
-        peer_pair(&r, KIND, table5.bytes, table5.length, p[0], p[1], p[2]);
+    take_way(way);
+    for (size_t i = 0; i < t->count; i++) {
+        const double *p = t->pairs[i];
+        pair_ends r;
+        peer_pair(&r, t->kind, t->bytes, t->rows * t->row, p[0], p[1], p[2]);
         total += bits_of(r.vapour_pressure[0]);
     }
     return total;
 }
 
-static uint64_t stopping_pairs(const void *argument)
+static void accepted(const packed *t)
 {
-    return stopping(peer_pairs, argument);
+    for (size_t i = 0; i < PAIRS; i++) {
+        const double *p = t->pairs[i];
+        if (wb_pair(peer_bits, t->kind, t->bytes, t->rows * t->row, p[0], p[1], p[2], 1e6, 1e6, 0) != 0) {
+            printf("pair %zu of kind %d is not accepted\n", i, (int)t->kind);
+            exit(1);
+        }
+    }
 }
 
-static void measure_pairs(void)
+static void measure_pairs(const char *name, packed *t, size_t count)
 {
-    static const size_t counts[] = {1, PAIRS};
-    measure(&(work){"one pair, 38 terms", 1, wb_pair ? library_pairs : 0, peer_pairs, stopping_pairs, &counts[0]});
-    measure(&(work){"one of 1,000 pairs", PAIRS, wb_pair ? library_pairs : 0, peer_pairs, stopping_pairs, &counts[1]});
+    t->count = count;
+    measure(&(work){name, count, {{library_pairs, QUICK}, {library_pairs, PLAIN}, {peer_pairs, 0}, {peer_pairs, STOPS},
+                                  {peer_pairs, ONCE}, {peer_pairs, ONCE | STOPS}}, t});
+}
+
+static void measure_kind(packed *t)
+{
+    static const size_t counts[] = {1, 8, 38, 64};
+    char name[32];
+    snprintf(name, sizeof name, "%d bits, kind %d", peer_bits, (int)t->kind);
+    measure_heading(name, (const char *const[SIDES]){"quick, ns", "plain, ns", "MPFR, ns", "MPFR stops, ns", "once, ns", "once stops, ns"});
+    for (size_t i = 0; i < sizeof counts / sizeof *counts; i++)
+        measure_state(t, counts[i]);
+    accepted(t);
+    snprintf(name, sizeof name, "one pair, %zu terms", t->rows);
+    measure_pairs(name, t, 1);
+    measure_pairs("one of 1,000 pairs", t, PAIRS);
 }
 
 static size_t read_file(const char *name, void *to, size_t most)
@@ -256,21 +274,29 @@ static size_t read_file(const char *name, void *to, size_t most)
     return got;
 }
 
+static int read_kind(packed *t, const char *table, const char *pairs)
+{
+    t->rows = read_file(table, t->bytes, sizeof t->bytes) / t->row;
+    return t->rows != 0 && read_file(pairs, t->pairs, sizeof t->pairs) == sizeof t->pairs;
+}
+
 int main(int count, char **arguments)
 {
-    if (count == 4) {
+    static packed table5 = {.kind = 38, .row = 9}, table4 = {.kind = 58, .row = 12};
+    if (count == 6)
         peer_bits = atoi(arguments[1]);
-        table5.length = read_file(arguments[2], table5.bytes, sizeof table5.bytes);
-    }
-    if ((peer_bits != 32 && peer_bits != 53) || table5.length != ROWS * ROW
-        || read_file(arguments[3], pairs, sizeof pairs) != sizeof pairs) {
-        fputs("usage: marks 32|53 TABLE5 PAIRS, 38 terms and 1,000 pairs\n", stderr);
+    if (count != 6 || (peer_bits != 32 && peer_bits != 53) || !read_kind(&table5, arguments[2], arguments[3])
+        || !read_kind(&table4, arguments[4], arguments[5])) {
+        fputs("usage: marks 32|53 TABLE5 PAIRS5 TABLE4 PAIRS4, 1,000 pairs each\n", stderr);
         return 2;
     }
-    measure_heading(arguments[1]);
+    char name[32];
+    snprintf(name, sizeof name, "%d bits", peer_bits);
+    measure_heading(name, (const char *const[SIDES]){"library, ns", "MPFR, ns", "MPFR stops, ns"});
     measure_singles();
-    measure_exponentials();
-    measure_states();
-    measure_pairs();
+    measure_exponentials("exponential, up to 322 kg/m3", 1.0 / 1024, 322.0);
+    measure_exponentials("exponential, from 322 kg/m3", 322.0, 1287.0); /* the loops of crates/marks take x below 64 */
+    measure_kind(&table5);
+    measure_kind(&table4);
     return 0;
 }

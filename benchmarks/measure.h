@@ -5,18 +5,25 @@
 
 #include <stdint.h>
 
-/* One kind of work.  Each side does it once a call, goes by the argument, and gives a number that all its results enter. */
+enum { SIDES = 6 };
+
+/* A side does the work once a call, by the argument and in its own way, and gives a number that all its results enter. */
+typedef struct {
+    uint64_t (*call)(const void *argument, int way); /* null: there is no such side */
+    int way;
+} side;
+
+/* One kind of work; the first side is the library's. */
 typedef struct {
     const char *name;
     double operations; /* in one call */
-    uint64_t (*library)(const void *argument); /* null: not there yet, and only the peer is timed */
-    uint64_t (*peer)(const void *argument);
-    uint64_t (*stopping)(const void *argument); /* the peer with the library's stop in the exponential; null: it has none */
+    side sides[SIDES];
     const void *argument;
 } work;
 
-/* The heading with the width in bits, and a line for each kind of work: nanoseconds an operation for each side, and library over peer, either way. */
-void measure_heading(const char *width);
+/* A heading with a title for each side, and a line for each kind of work: nanoseconds an operation for each side, and behind every side
+   but the first what the first takes of it. */
+void measure_heading(const char *name, const char *const titles[SIDES]);
 void measure(const work *w);
 
 #endif

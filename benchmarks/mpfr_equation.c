@@ -1,6 +1,8 @@
 /* The equation's three sums, and what one state and one pair are made of.  Assumes what mpfr_equation.h says. */
 #include "mpfr_equation.h"
 
+enum { MOST = 64 }; /* terms of a table */
+
 typedef struct {
     unsigned c, factor, d, t; /* the factor in hundredths */
     int negative;
@@ -10,6 +12,17 @@ typedef struct {
 typedef struct {
     bracket s0, s1, s2;
 } sums;
+
+/* The exponentials that a phase has taken, each for its c and its factor. */
+typedef struct {
+    size_t count;
+    struct {
+        unsigned c, factor;
+        bracket e;
+    } each[MOST];
+} taken;
+
+int peer_once = 0;
 
 /* Nine bytes, most significant bit first: c 2, d 4, t 5, sign 1, magnitude 60. */
 static term of_nine(const uint8_t *nine)
@@ -51,14 +64,30 @@ static void exponential(bracket *r, const bracket *g)
     mpfr_set_zero(r->lo, 1);
 }
 
+/* A term's E: the one that was taken for its c and its factor, or else one more. */
+static const bracket *exponential_of(taken *all, const term *n, const bracket *g)
+{
+    size_t i = peer_once ? 0 : all->count;
+    while (i < all->count && (all->each[i].c != n->c || all->each[i].factor != n->factor))
+        i++;
+    bracket *e = &all->each[i].e;
+    if (i == all->count) {
+        all->count++;
+        all->each[i].c = n->c;
+        all->each[i].factor = n->factor;
+        peer_ready(e);
+        exponential(e, g);
+    }
+    return e;
+}
+
 /* V = ((coefficient times delta^d) times tau^t) times E; without c there is no E. */
-static void value(bracket *r, const term *n, const bracket *delta, const bracket *tau, const bracket *g)
+static void value(bracket *r, const term *n, const bracket *delta, const bracket *tau, const bracket *g, taken *all)
 {
     BRACKET(coefficient);
     BRACKET(power);
     BRACKET(first);
     BRACKET(second);
-    BRACKET(e);
     peer_ratio(&coefficient, n->negative, n->magnitude, 10000000000000000u);
     peer_power(&power, delta, n->d);
     peer_product(&first, &coefficient, &power);
@@ -68,8 +97,7 @@ static void value(bracket *r, const term *n, const bracket *delta, const bracket
         return;
     }
     peer_product(&second, &first, &power);
-    exponential(&e, g);
-    peer_product(r, &second, &e);
+    peer_product(r, &second, exponential_of(all, n, g));
 }
 
 /* w = d - (c times g), and what V is multiplied with in S2: (w times (w - 1)) - (c^2 times g). */
@@ -114,7 +142,7 @@ static void exponent(bracket *r, const term *n, const bracket *delta)
     peer_product(r, &factor, &power);
 }
 
-static void add_term(sums *s, const term *n, const bracket *delta, const bracket *tau)
+static void add_term(sums *s, const term *n, const bracket *delta, const bracket *tau, taken *all)
 {
     BRACKET(g);
     BRACKET(v);
@@ -123,7 +151,7 @@ static void add_term(sums *s, const term *n, const bracket *delta, const bracket
     BRACKET(addend);
     if (n->c != 0)
         exponent(&g, n, delta);
-    value(&v, n, delta, tau, &g);
+    value(&v, n, delta, tau, &g, all);
     weights(&w, &w2, n, &g);
     peer_sum(&s->s0, &s->s0, &v);
     peer_product(&addend, &v, &w);
@@ -135,6 +163,7 @@ static void add_term(sums *s, const term *n, const bracket *delta, const bracket
 static void sums_of(sums *s, uint64_t kind, const uint8_t *table, size_t length, double T, double rho)
 {
     size_t size = kind == 58 ? 12 : 9;
+    taken all;
     BRACKET(given);
     BRACKET(constant);
     BRACKET(delta);
@@ -148,9 +177,10 @@ static void sums_of(sums *s, uint64_t kind, const uint8_t *table, size_t length,
     peer_ready(&s->s0);
     peer_ready(&s->s1);
     peer_ready(&s->s2);
+    all.count = 0;
     for (size_t at = 0; at < length; at += size) {
         term n = kind == 58 ? of_twelve(table + at) : of_nine(table + at);
-        add_term(s, &n, &delta, &tau);
+        add_term(s, &n, &delta, &tau, &all);
     }
 }
 
@@ -221,7 +251,7 @@ static void hand_out(double *two, const bracket *b)
     two[1] = mpfr_zero_p(b->hi) ? 0.0 : mpfr_get_d(b->hi, MPFR_RNDN);
 }
 
-void peer_state(peer_state_ends *r, uint64_t kind, const uint8_t *table, size_t length, double T, double rho)
+void peer_state(state_ends *r, uint64_t kind, const uint8_t *table, size_t length, double T, double rho)
 {
     sums s;
     BRACKET(b);
@@ -232,7 +262,7 @@ void peer_state(peer_state_ends *r, uint64_t kind, const uint8_t *table, size_t 
     hand_out(r->stiffness, &b);
 }
 
-void peer_pair(peer_pair_ends *r, uint64_t kind, const uint8_t *table, size_t length, double T, double liquid, double vapour)
+void peer_pair(pair_ends *r, uint64_t kind, const uint8_t *table, size_t length, double T, double liquid, double vapour)
 {
     sums heavy, light;
     BRACKET(a);

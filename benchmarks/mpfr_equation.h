@@ -4,18 +4,14 @@
 #define MPFR_EQUATION_H
 
 #include <stddef.h>
+#include "ends.h"
 #include "mpfr_bracket.h"
 
-/* Two ends of a bracket each, lower before upper, as f64s of exactly that value. */
-typedef struct {
-    double pressure[2], stiffness[2];
-} peer_state_ends;
+/* Whether a phase takes the exponential of one c and one factor once, for all of its terms; else every term takes its own.  Powers are
+   each term's own either way. */
+extern int peer_once;
 
-typedef struct {
-    double liquid_pressure[2], vapour_pressure[2], pressure_gap[2], gibbs_gap[2], liquid_stiffness[2], vapour_stiffness[2];
-} peer_pair_ends;
-
-void peer_state(peer_state_ends *r, uint64_t kind, const uint8_t *table, size_t length, double T, double rho);
-void peer_pair(peer_pair_ends *r, uint64_t kind, const uint8_t *table, size_t length, double T, double liquid, double vapour);
+void peer_state(state_ends *r, uint64_t kind, const uint8_t *table, size_t length, double T, double rho);
+void peer_pair(pair_ends *r, uint64_t kind, const uint8_t *table, size_t length, double T, double liquid, double vapour);
 
 #endif

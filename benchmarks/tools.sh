@@ -1,9 +1,10 @@
-# What benchmarks/check and benchmarks/run share: a C compiler for x86-64, MPFR and GMP for it, and what runs its programs.
+# What benchmarks/check, run and program share: a C compiler for x86-64, MPFR and GMP for it, and what runs its programs.
 # Sourced by bash from the repository's root.  Everything lands below build/benchmarks; MPFR and GMP are those that the compiler
 # finds on x86-64, else Debian's packages for amd64, unpacked there and not installed.  Assumes rt on the path, and apt-get where
 # something is missing.
 out=build/benchmarks
 mkdir -p "$out"
+peers=(benchmarks/mpfr_bracket.c benchmarks/mpfr_series.c benchmarks/mpfr_equation.c benchmarks/shortcut.c)
 
 # need COMMAND PACKAGE..: installs the Debian packages where the command is missing.
 need() {
@@ -49,4 +50,14 @@ compile() {
         libraries=("-L$packages/lib/x86_64-linux-gnu")
     fi
     "$cc" -std=c11 -O2 -Wall -Wextra "${flags[@]}" -o "$out/$program" "$@" "${libraries[@]}" -lmpfr -lgmp || exit 1
+}
+
+# make_pairs: 1,000 pairs of each kind for the loops, and the same as the bench program's proposals.
+make_pairs() {
+    local kind
+    for kind in 38 58; do
+        [ "$out/proposals$kind.bin" -nt benchmarks/pairs.py ] && continue
+        python3 benchmarks/pairs.py $kind >"$out/pairs$kind.bin" || exit 1
+        python3 benchmarks/pairs.py $kind proposals >"$out/proposals$kind.bin" || exit 1
+    done
 }

@@ -1,11 +1,13 @@
-/* The MPFR peer as a program of the comparison: mpfr_lines NAME [stop] answers the records of tests/gen_NAME.py, for single,
-   brackets, series, states and pairs, so that tests/compare can hold it to the second program; `stop` has the exponential take
-   the rest of its series at once.
+/* The peers as programs of the comparison, so that tests/compare can hold them to the second program.  peer_lines NAME [WAY..] answers the
+   records of tests/gen_NAME.py on MPFR, for single, brackets, series, states and pairs; the way `stop` has the exponential take the rest
+   of its series at once, `once` takes each different exponential of a phase once.  peer_lines shortcut answers those of
+   benchmarks/gen_shortcut.py by the program with every shortcut.
    Assumes whole records, as tests/stream.py describes them. */
 #include <stdio.h>
 #include <stdlib.h>
 #include <string.h>
 #include "mpfr_equation.h"
+#include "shortcut.h"
 
 enum { BIAS = 262144, LONGEST = 768 };
 
@@ -15,7 +17,7 @@ static int next_word(uint64_t *word)
     uint8_t bytes[8];
     size_t got = fread(bytes, 1, 8, stdin);
     if (got != 0 && got != 8) {
-        fputs("mpfr_lines: a record is cut short\n", stderr);
+        fputs("peer_lines: a record is cut short\n", stderr);
         exit(1);
     }
     *word = 0;
@@ -28,7 +30,7 @@ static uint64_t word(void)
 {
     uint64_t w;
     if (!next_word(&w)) {
-        fputs("mpfr_lines: a record is cut short\n", stderr);
+        fputs("peer_lines: a record is cut short\n", stderr);
         exit(1);
     }
     return w;
@@ -64,7 +66,7 @@ static size_t read_table(void)
 {
     uint64_t length = word();
     if (length > LONGEST) {
-        fputs("mpfr_lines: a table is too long\n", stderr);
+        fputs("peer_lines: a table is too long\n", stderr);
         exit(1);
     }
     for (size_t at = 0; at < length; at += 8) {
@@ -166,7 +168,7 @@ static void answer_series(void)
 
 static void answer_state(void)
 {
-    peer_state_ends r;
+    state_ends r;
     uint64_t kind = word();
     size_t length = read_table();
     double T = f64(), rho = f64();
@@ -175,19 +177,34 @@ static void answer_state(void)
     put_f64(r.stiffness);
 }
 
+static void put_pair(const pair_ends *r)
+{
+    put_f64(r->liquid_pressure);
+    put_f64(r->vapour_pressure);
+    put_f64(r->pressure_gap);
+    put_f64(r->gibbs_gap);
+    put_f64(r->liquid_stiffness);
+    put_f64(r->vapour_stiffness);
+}
+
 static void answer_pair(void)
 {
-    peer_pair_ends r;
+    pair_ends r;
     uint64_t kind = word();
     size_t length = read_table();
     double T = f64(), liquid = f64(), vapour = f64();
     peer_pair(&r, kind, table, length, T, liquid, vapour);
-    put_f64(r.liquid_pressure);
-    put_f64(r.vapour_pressure);
-    put_f64(r.pressure_gap);
-    put_f64(r.gibbs_gap);
-    put_f64(r.liquid_stiffness);
-    put_f64(r.vapour_stiffness);
+    put_pair(&r);
+}
+
+static void answer_shortcut(void)
+{
+    pair_ends r;
+    word(); /* the kind is 38, and the width 32 */
+    size_t length = read_table();
+    double T = f64(), liquid = f64(), vapour = f64();
+    shortcut_pair(&r, table, length, T, liquid, vapour);
+    put_pair(&r);
 }
 
 int main(int count, char **arguments)
@@ -196,9 +213,12 @@ int main(int count, char **arguments)
         const char *name;
         void (*answer)(void);
     } kinds[] = {{"single", answer_single}, {"brackets", answer_brackets}, {"series", answer_series},
-                 {"states", answer_state}, {"pairs", answer_pair}};
-    peer_stops = count == 3 && strcmp(arguments[2], "stop") == 0;
-    for (size_t i = 0; count == 2 + peer_stops && i < sizeof kinds / sizeof *kinds; i++) {
+                 {"states", answer_state}, {"pairs", answer_pair}, {"shortcut", answer_shortcut}};
+    for (int i = 2; i < count; i++) {
+        peer_stops |= strcmp(arguments[i], "stop") == 0;
+        peer_once |= strcmp(arguments[i], "once") == 0;
+    }
+    for (size_t i = 0; count == 2 + peer_stops + peer_once && i < sizeof kinds / sizeof *kinds; i++) {
         if (strcmp(arguments[1], kinds[i].name) != 0)
             continue;
         for (uint64_t width; next_word(&width); end_line()) {
@@ -207,6 +227,6 @@ int main(int count, char **arguments)
         }
         return 0;
     }
-    fputs("usage: mpfr_lines single|brackets|series|states|pairs [stop]\n", stderr);
+    fputs("usage: peer_lines single|brackets|series|states|pairs|shortcut [stop] [once]\n", stderr);
     return 2;
 }
