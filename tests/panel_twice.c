@@ -1,11 +1,13 @@
-/* Random calls of the three checks' C entries, each made twice: the two answers must be the same, and the lent bytes as
- * before.
+/* Random calls of the three checks' C entries, plain and with a lent slice of terms, each made twice: the two answers
+ * must be the same, and the lent bytes as before.  Two slices that were the same must be so afterwards, and where there
+ * is room for any table the answer must be the plain call's.
  *
  *   panel_twice CALLS DEEP [SEED]
  *
- * Every call has random bytes as its table and random bit patterns as its doubles; its width is mostly 32 or 53, its
- * kind mostly 38 or 58, and either at times any number.  Of every DEEP calls one is made to get as far as the equation:
- * such a width and kind, a sound table of one to three terms and numbers in their ranges; 0 makes none of these.
+ * Every call has random bytes as its table and its slice, and random bit patterns as its doubles; its width is mostly
+ * 32 or 53, its kind mostly 38 or 58, and either at times any number.  Of every DEEP calls one is made to get as far as
+ * the equation: such a width and kind, a sound table of one to three terms and numbers in their ranges; 0 makes none of
+ * these.
  * Ends with a line 'N passed, M failed'. */
 #include <inttypes.h>
 #include <stdio.h>
@@ -13,7 +15,10 @@
 
 #include "waterbench.h"
 
-enum { LONGEST_TABLE = 800, NUMBERS = 5, OLD_TERM = 9, NEW_TERM = 12 };
+enum { LONGEST_TABLE = 800, NUMBERS = 5, OLD_TERM = 9, NEW_TERM = 12, MOST_TERMS = 64, LARGEST_ROOM = 70 };
+
+/* The plain calls are 0 to 2; those with a slice stand in the same order behind them. */
+enum { WITH_A_SLICE = 3, FUNCTIONS = 6 };
 
 static uint64_t state;
 
@@ -34,6 +39,8 @@ static double between(double low, double high)
 struct call {
     uint8_t table[LONGEST_TABLE];
     size_t length;
+    wb_term terms[LARGEST_ROOM];
+    size_t room;
     double x[NUMBERS];
     uint64_t width, kind, function, choice;
 };
@@ -60,10 +67,19 @@ static void any_call(struct call *c)
     c->length = next() % 4 ? next() % (LONGEST_TABLE + 1) : term_bytes(c->kind) * (1 + next() % 64);
     for (size_t i = 0; i < LONGEST_TABLE; i++)
         c->table[i] = (uint8_t)next();
+    for (size_t i = 0; i < sizeof c->terms; i += sizeof(uint64_t)) {
+        uint64_t word = next();
+        memcpy((uint8_t *)c->terms + i, &word, sizeof word);
+    }
+    /* half of the slices have room for any table, the others often too little */
+    if (next() % 2)
+        c->room = MOST_TERMS + next() % (LARGEST_ROOM - MOST_TERMS + 1);
+    else
+        c->room = next() % (next() % 2 ? 4 : MOST_TERMS);
     for (int i = 0; i < NUMBERS; i++)
         c->x[i] = wb_double(next());
     c->width = next() % 8 ? sound_width() : next() >> c->length % 64;
-    c->function = next() % 3;
+    c->function = next() % FUNCTIONS;
     c->choice = next() % 8 ? next() % 7 : next();
 }
 
@@ -103,14 +119,15 @@ static void deep_call(struct call *c)
     c->length = term_bytes(c->kind) * (1 + next() % 3);
     for (size_t i = 0; i < c->length; i += term_bytes(c->kind))
         (old ? sound_old_term : sound_new_term)(c->table + i);
-    c->x[0] = between(c->function == 2 ? 273.16 : old ? 273 : 252, 1273);
+    uint64_t check = c->function % WITH_A_SLICE;
+    c->x[0] = between(check == 2 ? 273.16 : old ? 273 : 252, 1273);
     c->x[1] = between(322.5, old ? 1288 : 2576);
-    c->x[2] = c->function == 1 ? between(0, old ? 1e9 : 25e9) : between(0.001, 321.5);
+    c->x[2] = check == 1 ? between(0, old ? 1e9 : 25e9) : between(0.001, 321.5);
     c->x[3] = between(0, 1e6);
     c->x[4] = between(0, 1e6);
 }
 
-static uint64_t made(const struct call *c)
+static uint64_t made(struct call *c)
 {
     const double *x = c->x;
     switch (c->function) {
@@ -118,14 +135,50 @@ static uint64_t made(const struct call *c)
         return wb_state(c->width, c->kind, c->table, c->length, x[0], x[1], c->choice);
     case 1:
         return wb_density(c->width, c->kind, c->table, c->length, x[0], x[1], x[2], x[3], c->choice);
-    default:
+    case 2:
         return wb_pair(c->width, c->kind, c->table, c->length, x[0], x[1], x[2], x[3], x[4], c->choice);
+    case 3:
+        return wb_state_lent(c->width, c->kind, c->table, c->length, c->terms, c->room, x[0], x[1], c->choice);
+    case 4:
+        return wb_density_lent(c->width, c->kind, c->table, c->length, c->terms, c->room, x[0], x[1], x[2], x[3],
+                               c->choice);
+    default:
+        return wb_pair_lent(c->width, c->kind, c->table, c->length, c->terms, c->room, x[0], x[1], x[2], x[3], x[4],
+                            c->choice);
     }
+}
+
+/* The fields of two slices; what stands between them is not looked at. */
+static int same_terms(const wb_term *a, const wb_term *b, size_t room)
+{
+    for (size_t i = 0; i < room; i++)
+        if (a[i].c != b[i].c || a[i].factor != b[i].factor || a[i].d != b[i].d || a[i].t != b[i].t ||
+            a[i].negative != b[i].negative || a[i].magnitude != b[i].magnitude)
+            return 0;
+    return 1;
+}
+
+/* Whether a call left all as it was before, but for the slice that it was lent. */
+static int as_before(const struct call *before, struct call *after)
+{
+    if (before->function >= WITH_A_SLICE)
+        memcpy(after->terms, before->terms, before->room * sizeof(wb_term));
+    return memcmp(before, after, sizeof *before) == 0;
+}
+
+static int as_the_plain_call(const struct call *before, uint64_t value)
+{
+    static struct call plain;
+    if (before->function < WITH_A_SLICE || before->room < MOST_TERMS)
+        return 1;
+    memcpy(&plain, before, sizeof plain);
+    plain.function -= WITH_A_SLICE;
+    return made(&plain) == value;
 }
 
 int main(int count, char **words)
 {
-    static struct call call, kept;
+    static struct call call, again, kept;
     unsigned long calls = count > 2 ? strtoul(words[1], NULL, 10) : 0;
     unsigned long deep = count > 2 ? strtoul(words[2], NULL, 10) : 0;
     unsigned long passed = 0;
@@ -141,9 +194,11 @@ int main(int count, char **words)
         else
             any_call(&call);
         memcpy(&kept, &call, sizeof call);
+        memcpy(&again, &call, sizeof call);
         uint64_t first = made(&call);
-        uint64_t second = made(&call);
-        if (first == second && memcmp(&kept, &call, sizeof call) == 0)
+        uint64_t second = made(&again);
+        if (first == second && same_terms(call.terms, again.terms, LARGEST_ROOM) && as_before(&kept, &call) &&
+            as_before(&kept, &again) && as_the_plain_call(&kept, first))
             passed++;
         else
             printf("call %lu: %016" PRIx64 ", then %016" PRIx64 "\n", i, first, second);
