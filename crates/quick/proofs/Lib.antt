@@ -8,3 +8,8 @@ pub mod Reached
 pub mod Rowed
 pub mod Passed
 pub mod Shared
+pub mod Stated
+pub mod Over
+pub mod Locals
+pub mod TermArray
+pub mod Called
