@@ -19,13 +19,7 @@ use Rattle.verdict.proofs.Tests.{both, together}
 use Rattle.quick.specs.declared.Question.{Question}
 use Rattle.quick.specs.declared.Reply.the-variants.{Short}
 use Rattle.quick.specs.Unpacked.{Readable}
-use Rattle.quick.specs.Lent.{soundInput, soundCount, laid, plainReply, replyOf}
-
--- what 19, 29, 1 and 2 leave
-pub record Sound (w kind : ℕ) (table : List ℕ) : Type 0 where
-  pub width-sound : soundWidth w ≡ true
-  pub kind-sound : soundKind kind ≡ true
-  pub table-sound : soundTable kind table ≡ true
+use Rattle.quick.specs.Lent.{Sound, soundInput, soundCount, laid, plainReply, replyOf}
 
 and-false : (b : Bool) → (b && false) ≡ false
 and-false true = refl

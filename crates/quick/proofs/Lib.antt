@@ -8,6 +8,7 @@ pub mod Reached
 pub mod Rowed
 pub mod Passed
 pub mod Shared
+pub mod Passing
 pub mod Stated
 pub mod Over
 pub mod Locals

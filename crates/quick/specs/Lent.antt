@@ -2,7 +2,7 @@
 -- terms that the slice holds. Assumes nothing.
 use Prim.Native.Nat.{ℕ}
 use mathlib.Core.Path.{_≡_}
-use mathlib.Core.Bool.{Bool, cond, _&&_}
+use mathlib.Core.Bool.{Bool, true, cond, _&&_}
 use mathlib.Core.List.{List, _++_}
 use lib.ListN.{length, drop}
 use lib.Dec.{leb, ltb}
@@ -18,6 +18,12 @@ use Rattle.quick.specs.declared.Reply.the-variants.{Short, Sheet, Check}
 use Rattle.quick.specs.Reading.{ReplyNumbers}
 
 -- 19, 29, 1 and 2 pass
+pub record Sound (w kind : ℕ) (table : List ℕ) : Type 0 where
+  pub width-sound : soundWidth w ≡ true
+  pub kind-sound : soundKind kind ≡ true
+  pub table-sound : soundTable kind table ≡ true
+
+-- the same as a test
 unfoldable pub soundInput : (w kind : ℕ) → List ℕ → Bool
 soundInput w kind table = soundWidth w && soundKind kind && soundTable kind table
 

@@ -6,7 +6,7 @@ use mathlib.Core.List.{List, _++_}
 use lib.ListN.{length, replicate, getD}
 use Rattle.kind.specs.Kind.{termBytes}
 use Rattle.term.specs.declared.Term.{Term}
-use Rattle.term.specs.Packed.{termsFrom}
+use Rattle.term.specs.Packed.{countTerms, termsFrom}
 use Rattle.term.specs.Bounds.{Bounds}
 
 -- a place of the array behind the terms
@@ -16,6 +16,10 @@ blank = record { c = 0; factor = 0; d = 0; t = 0; negative = false; magnitude = 
 -- the first terms of a table, and blanks behind them
 abbrev pub listed : ℕ → List ℕ → ℕ → List Term
 listed kind table count = termsFrom kind table 0 count ++ replicate (64 - count) blank
+
+-- a list holds all of a table's terms
+abbrev pub Holds : ℕ → List ℕ → List Term → Type 0
+Holds kind table list = list ≡ listed kind table (countTerms kind table)
 
 -- the first terms of a list keep the rules' bounds
 abbrev pub AllBounds : List Term → ℕ → Type 0

@@ -11,9 +11,14 @@ mod keys; // keys.rt: which terms share what
 mod ready; // ready.rt: what a table gives at one temperature
 mod kept; // kept.rt: what terms share at a density
 mod pass; // pass.rt: the sums at one density
+mod answers; // answers.rt: the three answers by the pass
 mod replies; // replies.rt: what is replied once the slice is looked at
+mod own; // own.rt: the calls with a slice of their own
 mod slice; // slice.rt: the slice of terms, lent by the caller or this crate's own
 
+pub use own::density_check;
+pub use own::pair_check;
+pub use own::state_sheet;
 pub use slice::ask;
 
 // What is asked: the state sheet; the density check with its target and tolerance; the pair check with its vapour and both tolerances.

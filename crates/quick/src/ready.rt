@@ -9,11 +9,10 @@ ghost use Rattle.sheet.specs.Range.{Width};
 ghost use Rattle.kind.specs.Kind.{widest};
 ghost use Rattle.doubles.specs.Range.{acceptedTemperature};
 ghost use Rattle.term.specs.Bounds.{Bounds};
-ghost use Rattle.term.specs.Packed.{countTerms};
 ghost use Rattle.term.specs.Sound.{soundTable};
 ghost use Rattle.equation.specs.Rules.{coefficient};
 ghost use Rattle.quick.specs.Powers.{nothing};
-ghost use Rattle.quick.specs.Unpacked.{blank, listed, AllBounds};
+ghost use Rattle.quick.specs.Unpacked.{blank, Holds, AllBounds};
 ghost use Rattle.quick.specs.Ready.{noRow, Larger, Farther, Reaches, RowsTo, ReadyFor};
 use bracket::Bracket;
 use crate::keys::first_like;
@@ -136,7 +135,7 @@ fn rows_of(v: u64, list: [Term; 64], count: usize, taus: [Bracket; 64]) -> [Row;
 
 // All of it for a table's terms at a temperature.
 pub fn made_ready(v: u64, kind: u64, table: &[u8], list: [Term; 64], t: f64) -> Ready
-    requires { ⌜ Width v × (soundTable kind (now table) ≡ true) × (list ≡ listed kind (now table) (countTerms kind (now table))) ⌝ }
+    requires { ⌜ Width v × (soundTable kind (now table) ≡ true) × Holds kind (now table) list ⌝ }
     requires { ⌜ T (acceptedTemperature widest t) ⌝ }
     ensures { λ r. ⌜ ReadyFor (suc v) kind (now (table .entry)) r × (r .t ≡ t) ⌝ }
 {

@@ -1,12 +1,13 @@
 // What is replied to a question, once the width, the kind, the table and the slice's length are looked at.
 use crate::Question;
 use crate::Reply;
+use crate::answers;
 use term::Table;
 use term::Term;
 ghost use mathlib.Core.Path.{_≡_};
-ghost use Rattle.quick.specs.Lent.{soundCount, laid, plainReply, replyOf};
+ghost use Rattle.quick.specs.Lent.{Sound, soundCount, laid, plainReply, replyOf};
 ghost use Rattle.quick.specs.Reading.{ReplyNumbers};
-ghost use Rattle.quick.specs.Unpacked.{listed};
+ghost use Rattle.quick.specs.Unpacked.{listed, Holds};
 
 // How many terms there are, if 19, 29, 1 and 2 pass; else 0.
 fn sound_count(width: u64, kind: u64, table: &[u8]) -> usize
@@ -63,6 +64,38 @@ fn plain(width: u64, kind: u64, table: &[u8], question: Question) -> Reply
     }
 }
 
+// The quick engine's.
+fn quick(width: u64, kind: u64, table: &[u8], list: [Term; 64], question: Question) -> Reply
+    requires { ⌜ Sound width kind (now table) × Holds kind (now table) list ⌝ }
+    ensures { λ r. ⌜ r ≡ plainReply width kind (now (table .entry)) question ⌝ }
+    ensures { λ r. ⌜ ReplyNumbers r ⌝ }
+{
+    match question {
+        Question::Sheet(state) => {
+            let answer = answers::state_sheet(width, kind, table, list, state);
+            Reply::Sheet(answer)
+        }
+        Question::Density(state, target, tolerance) => {
+            let answer =
+                answers::density_check(width, kind, table, list, state, target, tolerance);
+            Reply::Check(answer)
+        }
+        Question::Pair(state, vapour, pressure_tolerance, gibbs_tolerance) => {
+            let answer = answers::pair_check(
+                width,
+                kind,
+                table,
+                list,
+                state,
+                vapour,
+                pressure_tolerance,
+                gibbs_tolerance,
+            );
+            Reply::Check(answer)
+        }
+    }
+}
+
 // The reply, by the table's terms in a list: `count` of them were laid into the slice.
 pub fn reply(
     width: u64,
@@ -78,7 +111,7 @@ pub fn reply(
     ensures { λ r. ⌜ ReplyNumbers r ⌝ }
 {
     if 0 < count {
-        return plain(width, kind, table, question);
+        return quick(width, kind, table, list, question);
     }
     if room < sound_count(width, kind, table) {
         return Reply::Short;

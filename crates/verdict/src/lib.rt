@@ -3,7 +3,7 @@
 
 mod widths; // widths.rt: which widths there are
 mod handed; // handed.rt: ends handed out, and their tests
-mod phases; // phases.rt: one phase in one pass over the table
+pub mod phases; // phases.rt: one phase in one pass over the table
 pub mod densities; // densities.rt: the density check
 pub mod pairs; // pairs.rt: the pair check
 pub mod sheets; // sheets.rt: the state sheet

@@ -27,7 +27,7 @@ ghost use Rattle.verdict.specs.Rules.{handedOut, underCeiling, onSides, 
 ghost use Rattle.verdict.specs.Statement.{PairStated};
 ghost use Rattle.verdict.specs.Handed.{Handy, WorkablePair};
 
-fn accepts_densities(kind: u64, liquid: f64, vapour: f64) -> bool
+pub fn accepts_densities(kind: u64, liquid: f64, vapour: f64) -> bool
     ensures { λ r. ⌜ r ≡ (acceptedDensity kind liquid && acceptedDensity kind vapour) ⌝ }
 {
     if doubles::range::accepts_density(kind, liquid) {
@@ -37,7 +37,7 @@ fn accepts_densities(kind: u64, liquid: f64, vapour: f64) -> bool
     }
 }
 
-fn accepts_tolerances(pressure: f64, gibbs: f64) -> bool
+pub fn accepts_tolerances(pressure: f64, gibbs: f64) -> bool
     ensures { λ r. ⌜ r ≡ (acceptedTolerance pressure && acceptedTolerance gibbs) ⌝ }
 {
     if doubles::range::accepts_tolerance(pressure) {
@@ -47,7 +47,7 @@ fn accepts_tolerances(pressure: f64, gibbs: f64) -> bool
     }
 }
 
-fn on_sides(liquid: f64, vapour: f64) -> bool
+pub fn on_sides(liquid: f64, vapour: f64) -> bool
     requires { ⌜ T (finite liquid) × T (finite vapour) ⌝ }
     ensures { λ r. ⌜ r ≡ onSides liquid vapour ⌝ }
 {
