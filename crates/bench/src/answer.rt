@@ -14,7 +14,7 @@ pub fn answer_line(width: u64, kind: u64, table: &[u8], count: u64, proposal: &[
         temperature: p.temperature,
         density: p.liquid,
     };
-    let answer = verdict::pair_check(
+    let answer = quick::pair_check(
         width,
         kind,
         table,

@@ -28,7 +28,7 @@ pub extern "C" fn wb_state(
         temperature: t,
         density: rho,
     };
-    let values = reading::of_sheet(verdict::state_sheet(width, kind, table, state));
+    let values = reading::of_sheet(quick::state_sheet(width, kind, table, state));
     at(&values, choice)
 }
 
@@ -51,7 +51,7 @@ pub extern "C" fn wb_density(
         temperature: t,
         density: rho,
     };
-    let answer = verdict::density_check(width, kind, table, state, target, tolerance);
+    let answer = quick::density_check(width, kind, table, state, target, tolerance);
     let values = reading::of_check(answer);
     at(&values, choice)
 }
@@ -76,7 +76,7 @@ pub extern "C" fn wb_pair(
         temperature: t,
         density: liquid,
     };
-    let answer = verdict::pair_check(
+    let answer = quick::pair_check(
         width,
         kind,
         table,
