@@ -30,7 +30,7 @@ module _ (w kind : ℕ) (table : List ℕ) where
   unfolding soundInput
   sound-input s = together _ _ (together _ _ (s .width-sound) (s .kind-sound)) (s .table-sound)
 
-  sound-parts : soundInput w kind table ≡ true → Sound w kind table
+  pub sound-parts : soundInput w kind table ≡ true → Sound w kind table
   unfolding soundInput
   sound-parts h =
       let p = both _ _ h in

@@ -14,3 +14,4 @@ pub mod Over
 pub mod Locals
 pub mod TermArray
 pub mod Called
+pub mod Same
