@@ -1,11 +1,12 @@
-/* The water bench: three calls that check what a search for water's saturation pair proposes, two that turn a table
- * typed as text into packed terms and back, and two that turn packed terms of one kind into the other.
+/* The water bench: three calls that check what a search for water's saturation pair proposes, the same three with a
+ * slice of terms that is lent for the unpacked table, two calls that turn a table typed as text into packed terms and
+ * back, and two that turn packed terms of one kind into the other.
  *
  * Lend a table of packed terms, 1 to 64 of them, and give the numbers as doubles.  Any bytes and any doubles are
- * answered, NaN and infinities too; nothing has to be checked before a call, and no byte is written but in the buffer
- * that the last four calls are lent for it.
+ * answered, NaN and infinities too; nothing has to be checked before a call, and no byte is written but in the slice
+ * or the buffer that a call is lent for it.
  *
- * Each of the three checks names its width first, the count of bits of the numbers that it works with: 32 (WB_COARSE)
+ * Each of the checks names its width first, the count of bits of the numbers that it works with: 32 (WB_COARSE)
  * or 53 (WB_FINE).  The rules are the same, and at either width the equation's own value lies between the ends; at 53
  * bits the ends are about a million times closer together, and a call takes longer.  Take 53 where a gauge is finer
  * than the 32-bit ends: in cold water the pressure gap of a pair is more than 1,000 Pa wide at 32 bits
@@ -83,10 +84,22 @@ enum wb_number {
     WB_NO_SPELLING = 17,    /* wb_write_text: a term can't be typed as a row; WB_PLACE says which */
     WB_NO_ROOM = 18,        /* the calls that write: the output is longer than the lent buffer */
     WB_WIDTH = 19,          /* the width is neither 32 nor 53 */
+    WB_SLICE = 20,          /* the .._lent calls: the lent slice holds fewer terms than the table */
     WB_VAPOUR_PRESSURE = 21, /* the vapour's pressure has no lower end above 0; the ends are its pressure's */
     WB_NO_OLD_FORM = 22,    /* wb_shorten: nine bytes can't say a term; WB_PLACE says which */
     WB_KIND = 29            /* the kind is neither 38 nor 58 */
 };
+
+/* A term of an unpacked table: its fields as the packed term has them, the factor of a nine-byte term 100, or 0 where
+ * c is 0.  `negative` is 0 or 1. */
+typedef struct {
+    uint64_t c;
+    uint64_t factor;
+    uint64_t d;
+    uint64_t t;
+    uint8_t negative;
+    uint64_t magnitude;
+} wb_term;
 
 #ifdef __cplusplus
 extern "C" {
@@ -110,6 +123,22 @@ uint64_t wb_density(uint64_t width, uint64_t kind, const uint8_t *table, size_t 
  * 273.16 is the first that is not refused with 3.  Refusals: 19, 29, 1 to 4, 6 to 8, 21, 9 to 11, in this order. */
 uint64_t wb_pair(uint64_t width, uint64_t kind, const uint8_t *table, size_t table_bytes, double temperature,
                  double liquid, double vapour, double pressure_tolerance, double gibbs_tolerance, uint64_t choice);
+
+/* The same three checks with a lent slice of terms.  They answer what the calls above answer, but for 20, right behind
+ * 19, 29, 1 and 2: the slice holds fewer terms than the table.  On 19, 29, 1, 2 and 20 the slice stays as it is; on
+ * every other number, accepted or refused, the table's terms stand in it in order, and the places behind them stay.
+ * 64 terms are room for any table.  `negative` has to be 0 or 1 in each place that is lent: memory that is set to zero
+ * will do.  The calls above take a slice of 64 terms of their own, and are as quick. */
+uint64_t wb_state_lent(uint64_t width, uint64_t kind, const uint8_t *table, size_t table_bytes, wb_term *terms,
+                       size_t terms_count, double temperature, double density, uint64_t choice);
+
+uint64_t wb_density_lent(uint64_t width, uint64_t kind, const uint8_t *table, size_t table_bytes, wb_term *terms,
+                         size_t terms_count, double temperature, double density, double target, double tolerance,
+                         uint64_t choice);
+
+uint64_t wb_pair_lent(uint64_t width, uint64_t kind, const uint8_t *table, size_t table_bytes, wb_term *terms,
+                      size_t terms_count, double temperature, double liquid, double vapour, double pressure_tolerance,
+                      double gibbs_tolerance, uint64_t choice);
 
 /* Reading: a table typed as text becomes packed terms of nine bytes.  The text has 1 to 64 rows, each ended by a line
  * feed:
