@@ -19,8 +19,8 @@ module _ {A : Type 0} (other : A) (P : ℕ → A → Type 0) where
   pub filled-more : (list : List A) (n : ℕ) (x : A) → n < length list → Filled other P list n → P n x → Filled other P (set list n x) (n + 1)
   filled-more list n x h f p k l =
       elim (over-or-less n k) [
-        inl over ↦
-          let is : n ≡ k = omega arith in
-          subst (λ (m : ℕ). P m (getD (set list n x) m other)) is (subst (P n) (sym (getD-set-same list n x other h)) p)
-      | inr less ↦ subst (P k) (sym (getD-set-other list n k x other (λ e. omega arith))) (f k less)
+        | inl over ↦
+            let is : n ≡ k = omega arith in
+            subst (λ (m : ℕ). P m (getD (set list n x) m other)) is (subst (P n) (sym (getD-set-same list n x other h)) p)
+        | inr less ↦ subst (P k) (sym (getD-set-other list n k x other (λ e. omega arith))) (f k less)
       ]

@@ -24,7 +24,7 @@ module _ (kind : ℕ) (table : List ℕ) where
   one-term list old n h e =
       let zero-plus : 0 + n ≡ n = omega arith in
       let front : termsFrom kind table 0 (n + 1) ≡ termsFrom kind table 0 n ++ (termAt kind table n ∷ []) =
-          ap (termsFrom kind table 0) (add-one n) ∙ from-more kind table 0 n ∙ ap (λ (k : ℕ). termsFrom kind table 0 n ++ (termAt kind table k ∷ [])) zero-plus in
+      ap (termsFrom kind table 0) (add-one n) ∙ from-more kind table 0 n ∙ ap (λ (k : ℕ). termsFrom kind table 0 n ++ (termAt kind table k ∷ [])) zero-plus in
       rw (e, front) (behind (termsFrom kind table 0 n) old n (termAt kind table n ∷ []) (from-length kind table 0 n) (omega arith))
 
   pub listed-at : (count k : ℕ) → k < count → getD (listed kind table count) k blank ≡ termAt kind table k
@@ -49,3 +49,7 @@ pub listed-bounds : (kind : ℕ) (table : List ℕ) → soundTable kind table �
 listed-bounds kind table sound {list} {count} n e k l =
     let inside : k < countTerms kind table = omega (arith, n, l) in
     subst Bounds (sym (ap (λ (z : List Term). getD z k blank) e ∙ listed-at kind table (countTerms kind table) k inside)) (sound-bounds kind table sound k inside)
+
+-- a list that holds a table's terms has them in place
+pub holds-at : (kind : ℕ) (table : List ℕ) {list : List Term} → list ≡ listed kind table (countTerms kind table) → (k : ℕ) → k < countTerms kind table → getD list k blank ≡ termAt kind table k
+holds-at kind table e k l = ap (λ (z : List Term). getD z k blank) e ∙ listed-at kind table (countTerms kind table) k l

@@ -25,6 +25,6 @@ unfolding power
 next-power w base list n {next} h p e =
     let last = p n (le-refl (suc n)) in
     let is : next ≡ power w base (n + 1) =
-        e ∙ ap (λ (b : Bracket). times w (ends b) (ends base)) last ∙ ap (power w base) (sym (add-one n)) in
+    e ∙ ap (λ (b : Bracket). times w (ends b) (ends base)) last ∙ ap (power w base) (sym (add-one n)) in
     subst (λ (m : ℕ). (k : ℕ) → k < m → getD (set list (n + 1) next) k nothing ≡ power w base k) (add-one (n + 1))
     (filled-more nothing (λ k b. b ≡ power w base k) list (n + 1) next h (subst (λ (m : ℕ). (k : ℕ) → k < m → getD list k nothing ≡ power w base k) (sym (add-one n)) p) is)

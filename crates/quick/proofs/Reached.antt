@@ -17,8 +17,8 @@ use Rattle.quick.proofs.Filled.{over-or-less}
 below : (f : ℕ → ℕ) (n old new : ℕ) → ((k : ℕ) → k < n → f k ≤ old) → old ≤ new → f n ≤ new → (k : ℕ) → k < n + 1 → f k ≤ new
 below f n old new h o p k l =
     elim (over-or-less n k) [
-      inl over ↦ let is : n ≡ k = omega arith in subst (λ (m : ℕ). f m ≤ new) is p
-    | inr less ↦ le-trans (h k less) o
+      | inl over ↦ let is : n ≡ k = omega arith in subst (λ (m : ℕ). f m ≤ new) is p
+      | inr less ↦ le-trans (h k less) o
     ]
 
 pub reach-more : (list : List Term) (n : ℕ) {old new : Reach} → Reaches list n old → Bounds (getD list n blank) → Farther old (getD list n blank) new → Reaches list (n + 1) new

@@ -79,9 +79,9 @@ module _ (w kind : ℕ) (table : List ℕ) where
     pub twenty : replyNumber (replyOf w kind table room asked) ≡ 20 ↔ (Sound w kind table × (room < countTerms kind table))
     twenty = (
       λ e. ⊎-elim
-      (λ enough. absurd (plain-not w kind table asked (ap replyNumber (reply-plain w kind table room asked enough) ∙ e)))
-      (λ short. let s = sound-of w kind table (omega arith) in (s .0, omega (arith, s .1, short)))
-      (over-or-less (soundCount w kind table) room),
+          (λ enough. absurd (plain-not w kind table asked (ap replyNumber (reply-plain w kind table room asked enough) ∙ e)))
+          (λ short. let s = sound-of w kind table (omega arith) in (s .0, omega (arith, s .1, short)))
+          (over-or-less (soundCount w kind table) room),
       λ p. sym (ap replyNumber (reply-short w kind table room asked (omega (arith, count-is (p .0), p .1)))),
     )
 

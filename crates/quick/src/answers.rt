@@ -153,7 +153,13 @@ fn pair_worked(
     )
 }
 
-pub fn state_sheet(width: u64, kind: u64, table: &[u8], list: [Term; 64], state: State) -> SheetAnswer
+pub fn state_sheet(
+    width: u64,
+    kind: u64,
+    table: &[u8],
+    list: [Term; 64],
+    state: State,
+) -> SheetAnswer
     requires { ⌜ Sound width kind (now table) × Holds kind (now table) list ⌝ }
     ensures { λ r. ⌜ StateStated width kind (now (table .entry)) (state .temperature) (state .density) r × SheetNumbers r ⌝ }
 {

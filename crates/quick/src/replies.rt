@@ -76,8 +76,7 @@ fn quick(width: u64, kind: u64, table: &[u8], list: [Term; 64], question: Questi
             Reply::Sheet(answer)
         }
         Question::Density(state, target, tolerance) => {
-            let answer =
-                answers::density_check(width, kind, table, list, state, target, tolerance);
+            let answer = answers::density_check(width, kind, table, list, state, target, tolerance);
             Reply::Check(answer)
         }
         Question::Pair(state, vapour, pressure_tolerance, gibbs_tolerance) => {

@@ -42,8 +42,7 @@ returns-2 c =
     let t = a .state .temperature in
     let rho = a .state .density in
     let kind = a .kind in
-    let table = a .table .now in
-    (
+    let table = a .table .now in (
       c .density-worked .ensures .0
           ∙ ap (λ (n : ℕ). firstFailing (densityWorked kind (pressure n kind table (exactOf t) (exactOf rho)) (targetGap n kind table (exactOf t) (exactOf rho) (exactOf (a .target))) (stiffness n kind table (exactOf t) (exactOf rho)) (a .tolerance)) (Accepted (handedOut (pressure n kind table (exactOf t) (exactOf rho))))) (one-less (a .width) (p .0 .width-sound) .1)
           ∙ density-passed (a .width) kind table (p .0) t rho (a .target) (a .tolerance) (d .0) (d .1) (d .2) (d .3),

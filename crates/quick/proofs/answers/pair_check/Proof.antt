@@ -33,8 +33,7 @@ pair-worked-requires c κs =
     let a = start .args in
     let p = start .pre in
     let x = pair-parts (a .kind) (a .liquid .temperature) (a .liquid .density) (a .vapour) (a .pressure-tolerance) (a .gibbs-tolerance) (passed (c .before .pair-passes .ensures) (c .if1 .left)) in
-    let apart = sides (a .liquid .density) (a .vapour) (x .apart) in
-    (
+    let apart = sides (a .liquid .density) (a .vapour) (x .apart) in (
       record {
         width = one-less _ (p .0 .width-sound) .0;
         table-sound = p .0 .table-sound;
@@ -57,8 +56,7 @@ returns-2 c =
     let kind = a .kind in
     let table = a .table .now in
     let t = a .liquid .temperature in
-    let l = a .liquid .density in
-    (
+    let l = a .liquid .density in (
       c .pair-worked .ensures .0
           ∙ ap (λ (n : ℕ). firstFailing (pairRest n kind table t l (a .vapour) (a .pressure-tolerance) (a .gibbs-tolerance)) (Accepted (handedOut (pressure n kind table (exactOf t) (exactOf (a .vapour)))))) (one-less (a .width) (p .0 .width-sound) .1)
           ∙ pair-passed (a .width) kind table (p .0) t l (a .vapour) (a .pressure-tolerance) (a .gibbs-tolerance) (x .hot) (x .dense) (x .thin) (x .near) (x .close) (x .apart),

@@ -63,11 +63,10 @@ judged-requires c κs =
 
 returns : tie.Need-returns
 unfolding phaseOf pressureGap gibbsGap
-returns c =
-    (
-      rw (c .before .gibbs-gap-of .ensures, c .before .before .pressure-gap-of .ensures, c .before .before .before .phase2 .ensures, c .before .before .before .before .phase .ensures) at (c .judged .ensures .0),
-      c .judged .ensures .1,
-    )
+returns c = (
+  rw (c .before .gibbs-gap-of .ensures, c .before .before .pressure-gap-of .ensures, c .before .before .before .phase2 .ensures, c .before .before .before .before .phase .ensures) at (c .judged .ensures .0),
+  c .judged .ensures .1,
+)
 
 pub pair-worked-spec : {M : Type 1} → statement M
 pair-worked-spec =

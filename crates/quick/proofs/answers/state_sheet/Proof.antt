@@ -51,8 +51,7 @@ returns-2 c =
     let p = start .pre in
     let d = state-parts (a .kind) (a .state .temperature) (a .state .density) (passed (c .before .before .before .sheet-passes .ensures) (c .before .before .if1 .left)) in
     let t = a .state .temperature in
-    let rho = a .state .density in
-    (
+    let rho = a .state .density in (
       (rw (c .before .phase-of .ensures) at (c .worked .ensures .0))
           ∙ ap (λ (n : ℕ). firstFailing (stateWorked (a .kind) (pressure n (a .kind) (a .table .now) (exactOf t) (exactOf rho))) (stateAccepted n (a .kind) (a .table .now) t rho)) (one-less (a .width) (p .0 .width-sound) .1)
           ∙ state-passed (a .width) (a .kind) (a .table .now) (p .0) t rho (d .0) (d .1),

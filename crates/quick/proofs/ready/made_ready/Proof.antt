@@ -44,8 +44,7 @@ rows-of-requires c κs =
 returns : tie.Need-returns
 returns c =
     let start = c .before .before .before .before .before .before in
-    let a = start .args in
-    (
+    let a = start .args in (
       ready-for (suc (a .v)) (a .kind) (a .table .now) (a .t) (start .pre .0 .2) (c .before .before .before .before .count-terms .ensures) (c .before .before .before .reach-of .result) (c .before .before .before .reach-of .ensures) (c .before .before .tau .ensures) (c .before .powers .result) (c .before .powers .ensures) (c .rows-of .ensures),
       refl,
     )

@@ -94,8 +94,8 @@ loop-again c =
     let t = c .before .before .before .before .before .before .before .loop-test .taken in
     let most = start .pre .2 in
     let row =
-        row-for (suc (a .v)) (a .t2) (a .count) (start .pre .1) (a .t4) (l .before .before .before .keys .result) (l .before .before .keys2 .result)
-        (l .before .before .before .keys .ensures) (l .before .before .keys2 .ensures) i t _ _ (c .before .before .before .first-like .ensures) (c .before .first-like2 .ensures) (c .row-of .ensures) in (
+    row-for (suc (a .v)) (a .t2) (a .count) (start .pre .1) (a .t4) (l .before .before .before .keys .result) (l .before .before .keys2 .result)
+    (l .before .before .before .keys .ensures) (l .before .before .keys2 .ensures) i t _ _ (c .before .before .before .first-like .ensures) (c .before .first-like2 .ensures) (c .row-of .ensures) in (
       omega arith,
       length-set (l .loop .rows) i (c .row-of .result) ∙ l .loop .inv .1,
       filled-more noRow (RowFor (suc (a .v)) (λ k. getD (a .t2) k blank) (λ t. getD (a .t4) t nothing)) (l .loop .rows) i (c .row-of .result) (omega (arith, l .loop .inv .1)) (l .loop .inv .2) row,
