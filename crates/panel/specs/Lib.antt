@@ -2,3 +2,4 @@
 pub mod Chosen
 pub mod Typed
 pub mod Converted
+pub mod Lent

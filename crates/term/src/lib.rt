@@ -21,7 +21,8 @@ pub use sound::sound_length;
 pub use sound::sound_term;
 
 // A term as its fields say: the exponential's factor is in hundredths, and the coefficient is `magnitude` units of ten to the minus 16, below
-// zero if `negative`.
+// zero if `negative`. C lends slices of them.
+#[repr(C)]
 pub struct Term {
     pub c: u64,
     pub factor: u64,
