@@ -100,17 +100,6 @@ module _ (v : ℕ) {A B : Span} (p : Ordered A) (q : Ordered B) where
 
 -- by the signs that the code reads off the ends
 module _ (v : ℕ) (a b : Bracket) (p : Ordered (ends a)) (q : Ordered (ends b)) where
-  -- times a bracket at or above zero, and at or below
-  pub times-above : nat 0 ≼ value (b .lo)
-      → record { lo = down (suc v) (value (a .lo) ⊗ side (a .lo .neg) (ends b)); hi = up (suc v) (value (a .hi) ⊗ side (not (a .hi .neg)) (ends b)) } ≡ times (suc v) (ends a) (ends b)
-  times-above k =
-      rounded-is v (over-times false (a .lo .neg) (a .hi .neg) (ends a) (ends b) p q k (sign-value (a .lo)) (sign-value (a .hi))) refl refl
-
-  pub times-below : value (b .hi) ≼ nat 0
-      → record { lo = down (suc v) (value (a .hi) ⊗ side (a .hi .neg) (ends b)); hi = up (suc v) (value (a .lo) ⊗ side (not (a .lo .neg)) (ends b)) } ≡ times (suc v) (ends a) (ends b)
-  times-below k =
-      rounded-is v (over-times true (a .hi .neg) (a .lo .neg) (ends a) (ends b) p q k (sign-value (a .hi)) (sign-value (a .lo))) refl refl
-
   pub divided-by : nat 0 ≺ value (b .lo)
       → record { lo = down (suc v) (value (a .lo) ⊘ side (not (a .lo .neg)) (ends b)); hi = up (suc v) (value (a .hi) ⊘ side (a .hi .neg) (ends b)) } ≡ divided (suc v) (ends a) (ends b)
   divided-by k =

@@ -1,48 +1,17 @@
-// The product of brackets. Where one factor has one sign, two roundings do: the signs of the other factor's ends say which ends meet. Where
-// both reach across zero it takes four. Assumes nothing.
+// The product of brackets. Where one factor has one sign, two roundings do: the signs say which ends meet. Where both reach across zero it
+// takes four. Assumes nothing.
 use crate::Bracket;
-use crate::picked::end;
 use sheet::Sheet;
 ghost use mathlib.Core.Path.{_≡_};
+ghost use mathlib.Core.Bool.{false, cond};
 ghost use Prim.Native.Nat.{suc};
-ghost use mathlib.Core.Bool.{not, cond};
 ghost use Rattle.exact.specs.Fraction.{least, greatest, leq, _⊗_};
 ghost use Rattle.sheet.specs.Number.{value};
 ghost use Rattle.sheet.specs.Round.{down, up};
-ghost use Rattle.sheet.specs.Range.{InRange};
 ghost use Rattle.sheet.specs.Steps.{BothSpelled};
-ghost use Rattle.bracket.specs.Span.{side};
 ghost use Rattle.bracket.specs.Rules.{ends, times};
 ghost use Rattle.bracket.specs.Held.{Held};
-
-// The least product of x and a number in b, rounded down: a factor below zero meets the upper end.
-fn least_with(v: u64, x: Sheet, b: Bracket) -> Sheet
-    requires { ⌜ InRange v x × Held v b ⌝ }
-    ensures { λ r. ⌜ r ≡ down (suc v) (value x ⊗ side (x .neg) (ends b)) ⌝ }
-{
-    sheet::product(v, false, x, end(v, x.neg, b))
-}
-
-// The greatest, rounded up: a factor below zero meets the lower end.
-fn greatest_with(v: u64, x: Sheet, b: Bracket) -> Sheet
-    requires { ⌜ InRange v x × Held v b ⌝ }
-    ensures { λ r. ⌜ r ≡ up (suc v) (value x ⊗ side (not (x .neg)) (ends b)) ⌝ }
-{
-    sheet::product(v, true, x, end(v, !x.neg, b))
-}
-
-// Times a bracket b of one sign: x and y are the other factor's ends that give the least and the greatest product.
-fn with_sign(v: u64, x: Sheet, y: Sheet, b: Bracket) -> Bracket
-    requires { ⌜ InRange v x × InRange v y × Held v b ⌝ }
-    ensures { λ r. ⌜ r ≡ record {
-      lo = down (suc v) (value x ⊗ side (x .neg) (ends b));
-      hi = up (suc v) (value y ⊗ side (not (y .neg)) (ends b));
-    } ⌝ }
-{
-    let lo = least_with(v, x, b);
-    let hi = greatest_with(v, y, b);
-    Bracket { lo, hi }
-}
+ghost use Rattle.bracket.specs.Meets.{bothAcross, Meets};
 
 // Both are roundings, so the order of their values is decided on the spelling.
 fn lesser(x: Sheet, y: Sheet) -> Sheet
@@ -76,24 +45,71 @@ fn across(v: u64, a: Bracket, b: Bracket) -> Bracket
     Bracket { lo, hi }
 }
 
-// The table of signs: b below zero, a below zero, both across zero, b alone across zero, b at or above zero.
+fn both_across(a: Bracket, b: Bracket) -> bool
+    ensures { λ r. ⌜ r ≡ bothAcross a b ⌝ }
+{
+    if a.hi.neg {
+        return false;
+    }
+    if b.hi.neg {
+        return false;
+    }
+    if b.lo.neg { a.lo.neg } else { false }
+}
+
+// The ends that meet: p and q in the least product, r and s in the greatest.
+struct Meeting {
+    p: Sheet,
+    q: Sheet,
+    r: Sheet,
+    s: Sheet,
+}
+
+fn met(p: Sheet, q: Sheet, r: Sheet, s: Sheet) -> Meeting
+    ensures { λ m. ⌜ m ≡ record { p = p; q = q; r = r; s = s } ⌝ }
+{
+    Meeting { p, q, r, s }
+}
+
+// The table of signs: b below zero, a below zero, b across zero, a across zero, both at or above zero.
+fn chosen(v: u64, a: Bracket, b: Bracket) -> Meeting
+    requires { ⌜ Held v a × Held v b × (bothAcross a b ≡ false) ⌝ }
+    ensures { λ m. ⌜ Meets v a b m ⌝ }
+{
+    if b.hi.neg {
+        if a.hi.neg {
+            return met(a.hi, b.hi, a.lo, b.lo);
+        }
+        if a.lo.neg {
+            return met(a.hi, b.lo, a.lo, b.lo);
+        }
+        return met(a.hi, b.lo, a.lo, b.hi);
+    }
+    if a.hi.neg {
+        if b.lo.neg {
+            return met(b.hi, a.lo, b.lo, a.lo);
+        }
+        return met(b.hi, a.lo, b.lo, a.hi);
+    }
+    if b.lo.neg {
+        return met(b.lo, a.hi, b.hi, a.hi);
+    }
+    if a.lo.neg {
+        return met(a.lo, b.hi, a.hi, b.hi);
+    }
+    met(a.lo, b.lo, a.hi, b.hi)
+}
+
+// One place for each end, after the choice, keeps the choice out of memory.
 pub fn product(v: u64, a: Bracket, b: Bracket) -> Bracket
     requires { ⌜ Held v a × Held v b ⌝ }
     ensures { λ r. ⌜ r ≡ times (suc v) (ends a) (ends b) ⌝ }
 {
-    if b.hi.neg {
-        return with_sign(v, a.hi, a.lo, b);
+    if both_across(a, b) {
+        return across(v, a, b);
     }
-    if a.hi.neg {
-        return with_sign(v, b.hi, b.lo, a);
-    }
-    if b.lo.neg {
-        if a.lo.neg {
-            across(v, a, b)
-        } else {
-            with_sign(v, b.lo, b.hi, a)
-        }
-    } else {
-        with_sign(v, a.lo, a.hi, b)
-    }
+    let m = chosen(v, a, b);
+    let lo = sheet::product(v, false, m.p, m.q);
+    let hi = sheet::product(v, true, m.r, m.s);
+    Bracket { lo, hi }
 }

@@ -1,72 +1,52 @@
--- `bracket::product` meets its contract: each case of the signs is a row of the table. Assumes nothing.
-use mathlib.Core.Path.{refl, _∙_}
+-- `bracket::product` meets its contract: by four roundings where both factors reach across zero, and else by the ends that meet. Assumes
+-- nothing.
+use mathlib.Core.Path.{refl, sym, _∙_}
 use Rattle.bracket.proofs.Signs.{over-across}
 use Rattle.bracket.proofs.Same.{rounded-is}
-use Rattle.bracket.proofs.Ends.{held-ordered, sign-of, times-above, times-below, times-comm}
+use Rattle.bracket.proofs.Ends.{sign-of}
+use Rattle.bracket.proofs.Meetings.{signs-across}
 use Rattle.bracket.specs.Rules.{ends}
 use borrow.Author.Needs.{needs}
 use Rattle.bracket.proofs.products.product.Statement.{statement}
 use Rattle.bracket.proofs.products.product.Tie as tie
 
-with-sign-requires : tie.Need-with-sign-requires
-with-sign-requires c κs = search needs
-
-returns : tie.Need-returns
-returns c =
-    let a = c .before .before .args in
-    let h = c .before .before .pre in
-    c .with-sign .ensures ∙ times-below (a .v) (a .a) (a .b) (held-ordered (h .0)) (held-ordered (h .1)) (sign-of (a .b .hi) (c .before .if1 .taken))
-
-with-sign-requires-2 : tie.Need-with-sign-requires-2
-with-sign-requires-2 c κs = search needs
-
-returns-2 : tie.Need-returns-2
-returns-2 c =
-    let a = c .before .before .before .args in
-    let h = c .before .before .before .pre in
-    c .with-sign2 .ensures ∙ times-below (a .v) (a .b) (a .a) (held-ordered (h .1)) (held-ordered (h .0)) (sign-of (a .a .hi) (c .before .if2 .taken)) ∙ times-comm (a .v) (ends (a .b)) (ends (a .a))
+both-across-requires : tie.Need-both-across-requires
+both-across-requires c κs = search needs
 
 across-requires : tie.Need-across-requires
 across-requires c κs = search needs
 
-with-sign-requires-3 : tie.Need-with-sign-requires-3
-with-sign-requires-3 c κs = search needs
+returns : tie.Need-returns
+returns c =
+    let k = c .before .before .before .args in
+    let e = signs-across (k .a .hi .neg) (k .b .hi .neg) (k .b .lo .neg) (k .a .lo .neg) (sym (c .before .before .both-across .ensures) ∙ c .before .if1 .taken) in
+    c .across .ensures
+    ∙ rounded-is (k .v) (over-across {A = ends (k .a)} {B = ends (k .b)} (sign-of (k .a .lo) (e .3)) (sign-of (k .a .hi) (e .0)) (sign-of (k .b .lo) (e .2)) (sign-of (k .b .hi) (e .1))) refl refl
 
-with-sign-requires-4 : tie.Need-with-sign-requires-4
-with-sign-requires-4 c κs = search needs
+chosen-requires : tie.Need-chosen-requires
+chosen-requires c κs =
+    let h = c .before .before .pre in
+    (h .0, h .1, sym (c .before .both-across .ensures) ∙ c .if1 .left)
 
-returns-3 : tie.Need-returns-3
-returns-3 c =
-    let a = c .before .before .before .before .before .args in
-    let al = sign-of (a .a .lo) (c .before .if4 .taken) in
-    let ah = sign-of (a .a .hi) (c .before .before .before .if2 .left) in
-    let bl = sign-of (a .b .lo) (c .before .before .if3 .taken) in
-    let bh = sign-of (a .b .hi) (c .before .before .before .before .if1 .left) in
-    c .across .ensures ∙ rounded-is (a .v) (over-across {A = ends (a .a)} {B = ends (a .b)} al ah bl bh) refl refl
+product-requires : tie.Need-product-requires
+product-requires c κs = (c .chosen .ensures .p, c .chosen .ensures .q)
 
-returns-4 : tie.Need-returns-4
-returns-4 c =
-    let a = c .before .before .before .before .before .args in
-    let h = c .before .before .before .before .before .pre in
-    c .with-sign3 .ensures ∙ times-above (a .v) (a .b) (a .a) (held-ordered (h .1)) (held-ordered (h .0)) (sign-of (a .a .lo) (c .before .if4 .left)) ∙ times-comm (a .v) (ends (a .b)) (ends (a .a))
+product-requires-2 : tie.Need-product-requires-2
+product-requires-2 c κs = (c .before .chosen .ensures .r, c .before .chosen .ensures .s)
 
-returns-5 : tie.Need-returns-5
-returns-5 c =
-    let a = c .before .before .before .before .args in
-    let h = c .before .before .before .before .pre in
-    c .with-sign4 .ensures ∙ times-above (a .v) (a .a) (a .b) (held-ordered (h .0)) (held-ordered (h .1)) (sign-of (a .b .lo) (c .before .if3 .left))
+returns-2 : tie.Need-returns-2
+returns-2 c =
+    (λ i. record { lo = c .before .product .ensures i; hi = c .product2 .ensures i })
+    ∙ c .before .before .chosen .ensures .product
 
 pub product-spec : {M : Type 1} → statement M
 product-spec =
     tie.close
     (tie.spec
-    with-sign-requires
-    returns
-    with-sign-requires-2
-    returns-2
+    both-across-requires
     across-requires
-    with-sign-requires-3
-    with-sign-requires-4
-    returns-3
-    returns-4
-    returns-5)
+    returns
+    chosen-requires
+    product-requires
+    product-requires-2
+    returns-2)
