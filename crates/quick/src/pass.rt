@@ -1,11 +1,11 @@
 // The three sums at one density: one pass over the rows, from zero, left to right.
-use bracket::Bracket;
 use crate::kept::Kept;
 use crate::kept::kept_for;
 use crate::kept::no_kept;
 use crate::powers::powers;
 use crate::ready::Ready;
 use crate::ready::Row;
+use bracket::Bracket;
 use equation::Sums;
 ghost use mathlib.Core.Path.{_≡_};
 ghost use mathlib.Core.Bool.{true};
@@ -41,7 +41,7 @@ fn addends(v: u64, coefficient: Bracket, delta: Bracket, tau: Bracket, kept: Kep
     Sums { s0, s1, s2 }
 }
 
-// The sums with a row's addends, by its power of delta.
+// The sums with a row's addends, by its power of delta. They are added here and not by a call: so the sums of the pass stay scalars.
 fn add_row(v: u64, row: Row, delta: Bracket, kept: Kept, s: Sums) -> Sums
     requires { ⌜ Addable v (row .coefficient) delta (row .tau) kept × AllHeld v s ⌝ }
     ensures { λ r. ⌜ r ≡ plusEach (suc v) s (addendsBy (suc v) (row .coefficient) delta (row .tau) kept) ⌝ }
@@ -49,7 +49,10 @@ fn add_row(v: u64, row: Row, delta: Bracket, kept: Kept, s: Sums) -> Sums
     let coefficient = row.coefficient;
     let tau = row.tau;
     let a = addends(v, coefficient, delta, tau, kept);
-    equation::plus_each(v, s, a)
+    let s0 = bracket::sum(v, s.s0, a.s0);
+    let s1 = bracket::sum(v, s.s1, a.s1);
+    let s2 = bracket::sum(v, s.s2, a.s2);
+    Sums { s0, s1, s2 }
 }
 
 pub fn sums_of(v: u64, kind: u64, table: &[u8], ready: Ready, rho: f64) -> Sums
