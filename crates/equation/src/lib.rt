@@ -20,7 +20,6 @@ pub use states::pressure_of;
 pub use states::stiffness_of;
 pub use states::target_gap_of;
 pub use table::no_sums;
-pub use table::plus_each;
 pub use table::sums_of;
 
 // The three sums over a table's terms, or one term's addends.

@@ -28,7 +28,7 @@ pub fn no_sums(v: u64) -> Sums
     }
 }
 
-pub fn plus_each(v: u64, s: Sums, a: Sums) -> Sums
+fn plus_each(v: u64, s: Sums, a: Sums) -> Sums
     requires { ⌜ AllHeld v s × AllHeld v a ⌝ }
     ensures { λ r. ⌜ r ≡ plusEach (suc v) s a ⌝ }
 {

@@ -50,7 +50,7 @@ fn addends(
     Sums { s0, s1, s2 }
 }
 
-// The sums with a row's addends, by its power of delta.
+// The sums with a row's addends, by its power of delta. They are added here and not by a call: so the sums of the pass stay scalars.
 fn add_row(v: u64, row: Row, delta: Bracket, e: Bracket, weights: Weights, s: Sums) -> Sums
     requires { ⌜ Addable v (row .coefficient) delta (row .tau) e weights × AllHeld v s ⌝ }
     ensures { λ r. ⌜ r ≡ plusEach (suc v) s (addendsBy (suc v) (row .coefficient) delta (row .tau) e weights) ⌝ }
@@ -58,7 +58,10 @@ fn add_row(v: u64, row: Row, delta: Bracket, e: Bracket, weights: Weights, s: Su
     let coefficient = row.coefficient;
     let tau = row.tau;
     let a = addends(v, coefficient, delta, tau, e, weights);
-    equation::plus_each(v, s, a)
+    let s0 = bracket::sum(v, s.s0, a.s0);
+    let s1 = bracket::sum(v, s.s1, a.s1);
+    let s2 = bracket::sum(v, s.s2, a.s2);
+    Sums { s0, s1, s2 }
 }
 
 pub fn sums_of(v: u64, kind: u64, table: &[u8], ready: Ready, rho: f64) -> Sums

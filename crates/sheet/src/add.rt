@@ -7,6 +7,7 @@ use crate::place::Found;
 use crate::place::cut;
 use crate::place::rounded;
 use crate::place::topped;
+use crate::place::trimmed;
 ghost use mathlib.Core.Path.{_≡_};
 ghost use mathlib.Core.Bool.{not};
 ghost use Prim.Native.Nat.{suc, _<_, _≤_};
@@ -40,7 +41,7 @@ fn aligned(m: u64, e: u64, to: u64) -> Found
     }
 }
 
-// Two numbers of one sign: the digits of the lower one at the place of the higher are added.
+// Two numbers of one sign: the digits of the lower one at the place of the higher are added, which makes one digit more at most.
 fn added(v: u64, up: bool, a: Sheet, b: Sheet) -> Sheet
     requires { ⌜ Addends v a b × (a .neg ≡ b .neg) ⌝ }
     ensures { λ r. ⌜ r ≡ round up (suc v) (value a ⊕ value b) ⌝ }
@@ -49,7 +50,7 @@ fn added(v: u64, up: bool, a: Sheet, b: Sheet) -> Sheet
     let ae = a.e;
     let x = aligned(b.m, b.e, ae);
     let q = x.m;
-    topped(v, up, a.neg, am + q, x.sticky, ae)
+    trimmed(v, up, a.neg, am + q, x.sticky, ae)
 }
 
 // Two numbers of different signs, at one place: nothing is cut.
@@ -99,27 +100,44 @@ fn ordered(v: u64, up: bool, a: Sheet, b: Sheet) -> Sheet
     taken(v, up, a, b)
 }
 
-pub fn sum(v: u64, up: bool, a: Sheet, b: Sheet) -> Sheet
-    requires { ⌜ InRange v a × InRange v b ⌝ }
-    ensures { λ r. ⌜ r ≡ round up (suc v) (value a ⊕ value b) ⌝ }
+// The sum of two numbers by their parts: a number that is handed over whole is copied two words at a time, and waits until both are stored.
+fn total(v: u64, up: bool, am: u64, bm: u64, ae: u64, be: u64, aneg: bool, bneg: bool) -> Sheet
+    requires { ⌜ InRange v (record { neg = aneg; m = am; e = ae }) × InRange v (record { neg = bneg; m = bm; e = be }) ⌝ }
+    ensures { λ r. ⌜ r ≡ round up (suc v) (value (record { neg = aneg; m = am; e = ae }) ⊕ value (record { neg = bneg; m = bm; e = be })) ⌝ }
 {
-    let am = a.m;
-    let bm = b.m;
+    let a = Sheet {
+        neg: aneg,
+        m: am,
+        e: ae,
+    };
+    let b = Sheet {
+        neg: bneg,
+        m: bm,
+        e: be,
+    };
     if am == 0 {
         return b;
     }
     if bm == 0 {
         return a;
     }
-    let fits = not_above(b.m, b.e, a.m, a.e);
+    let fits = not_above(bm, be, am, ae);
     let first = if fits { a } else { b };
     let second = if fits { b } else { a };
     ordered(v, up, first, second)
+}
+
+pub fn sum(v: u64, up: bool, a: Sheet, b: Sheet) -> Sheet
+    requires { ⌜ InRange v a × InRange v b ⌝ }
+    ensures { λ r. ⌜ r ≡ round up (suc v) (value a ⊕ value b) ⌝ }
+{
+    total(v, up, a.m, b.m, a.e, b.e, a.neg, b.neg)
 }
 
 pub fn difference(v: u64, up: bool, a: Sheet, b: Sheet) -> Sheet
     requires { ⌜ InRange v a × InRange v b ⌝ }
     ensures { λ r. ⌜ r ≡ round up (suc v) (value a ⊖ value b) ⌝ }
 {
-    sum(v, up, a, negated(b))
+    let c = negated(b);
+    total(v, up, a.m, c.m, a.e, c.e, a.neg, c.neg)
 }

@@ -2,7 +2,6 @@
 use mathlib.Core.Path.{sym, _∙_}
 use Prim.Native.Nat.{_+_}
 use native.Mathlib.Omega.{arith}
-use lib.Pow.{pow-pos}
 use Rattle.sheet.specs.Range.{extent}
 use Rattle.sheet.proofs.Addends.{pair}
 use Rattle.sheet.proofs.Sums.{place-add}
@@ -13,22 +12,22 @@ use Rattle.sheet.proofs.add.added.Tie as tie
 aligned-requires : tie.Need-aligned-requires
 aligned-requires c κs = (c .pre .0 .some, pair (c .args .v) (c .args .a) (c .args .b) (c .pre .0) .place)
 
-add-topped : tie.Need-add-topped
-add-topped c =
+add-trimmed : tie.Need-add-trimmed
+add-trimmed c =
     let p = pair (c .before .args .v) (c .before .args .a) (c .before .args .b) (c .before .pre .0) in
     omega (arith, p .small, p .small₂, p .room, c .aligned .ensures .small)
 
-topped-requires : tie.Need-topped-requires
-topped-requires c κs =
+trimmed-requires : tie.Need-trimmed-requires
+trimmed-requires c κs =
     let p = pair (c .before .args .v) (c .before .args .a) (c .before .args .b) (c .before .pre .0) in
-    (c .before .pre .0 .first .width, record { full = λ _ _. omega (arith, p .full); room = omega (arith, p .high) }, omega (arith, p .full, pow-pos (c .before .args .v)), omega (arith, p .low))
+    (c .before .pre .0 .first .width, omega (arith, p .full), omega (arith, p .small, p .small₂, c .aligned .ensures .small), omega (arith, p .high))
 
 returns : tie.Need-returns
 returns c =
     let k = c .before .before .args in
     let x = c .before .aligned in
-    c .topped .ensures (extent (k .a) + extent (k .b)) 1 (place-add (k .a .m) (x .result .m) (x .result .sticky) (k .a .e) (extent (k .b)) (x .ensures .found))
+    c .trimmed .ensures (extent (k .a) + extent (k .b)) 1 (place-add (k .a .m) (x .result .m) (x .result .sticky) (k .a .e) (extent (k .b)) (x .ensures .found))
     ∙ sym (sum-same (k .up) (k .v) (k .a) (k .b) (c .before .before .pre .1))
 
 pub added-spec : {M : Type 1} → statement M
-added-spec = tie.close (tie.spec aligned-requires add-topped topped-requires returns)
+added-spec = tie.close (tie.spec aligned-requires add-trimmed trimmed-requires returns)

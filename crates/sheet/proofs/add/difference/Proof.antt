@@ -15,17 +15,17 @@ use Rattle.sheet.proofs.add.difference.Tie as tie
 negated-requires : tie.Need-negated-requires
 negated-requires c κs = search needs
 
-sum-requires : tie.Need-sum-requires
-sum-requires c κs =
+total-requires : tie.Need-total-requires
+total-requires c κs =
     let h = c .before .pre in
     (h .0, subst (InRange (c .before .args .v)) (sym (c .negated .ensures)) (negate-range (h .1)))
 
 returns : tie.Need-returns
 returns c =
     let k = c .before .before .args in
-    c .sum .ensures
+    c .total .ensures
     ∙ ap (λ (s : Sheet). round (k .up) (suc (k .v)) (value (k .a) ⊕ value s)) (c .before .negated .ensures)
     ∙ sym (difference-is (k .up) (k .v) (k .a) (k .b))
 
 pub difference-spec : {M : Type 1} → statement M
-difference-spec = tie.close (tie.spec negated-requires sum-requires returns)
+difference-spec = tie.close (tie.spec negated-requires total-requires returns)
