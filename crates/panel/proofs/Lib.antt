@@ -5,3 +5,4 @@ pub mod TypedSettled
 pub mod ConvertedSettled
 pub mod Lengthened
 pub mod LentWalk
+pub mod LentSettled
