@@ -24,7 +24,7 @@ fn term_v(v: u64, term: Term, delta: Bracket, tau: Bracket, e: Bracket) -> Brack
 }
 
 // For c = 0 it is d.
-fn term_w(v: u64, d: u64, c: u64, g: Bracket) -> Bracket
+pub fn term_w(v: u64, d: u64, c: u64, g: Bracket) -> Bracket
     requires { ⌜ ((0 < d) × (d ≤ 31)) × ((c ≤ 15) × GIn v g) ⌝ }
     ensures { λ r. ⌜ r ≡ termW (suc v) d c g ⌝ }
 {
@@ -36,7 +36,7 @@ fn term_w(v: u64, d: u64, c: u64, g: Bracket) -> Bracket
     }
 }
 
-pub fn factor_w(v: u64, tw: Bracket) -> Bracket
+fn factor_w(v: u64, tw: Bracket) -> Bracket
     requires { ⌜ WIn v tw ⌝ }
     ensures { λ r. ⌜ r ≡ factorW (suc v) tw ⌝ }
 {
@@ -45,7 +45,7 @@ pub fn factor_w(v: u64, tw: Bracket) -> Bracket
 }
 
 // For c = 0 the last part is absent.
-fn factor_s2(v: u64, c: u64, g: Bracket, tw: Bracket) -> Bracket
+pub fn factor_s2(v: u64, c: u64, g: Bracket, tw: Bracket) -> Bracket
     requires { ⌜ (c ≤ 15) × (GIn v g × WIn v tw) ⌝ }
     ensures { λ r. ⌜ r ≡ factorS2 (suc v) c g tw ⌝ }
 {

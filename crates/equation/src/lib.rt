@@ -8,7 +8,8 @@ mod addends; // addends.rt: one term's addends of the three sums
 mod table; // table.rt: the sums over a table
 mod states; // states.rt: pressure, stiffness, Gibbs gap and the gaps
 
-pub use addends::factor_w;
+pub use addends::factor_s2;
+pub use addends::term_w;
 pub use exponent::factor_e;
 pub use exponent::scale;
 pub use inputs::coefficient;

@@ -7,7 +7,6 @@ pub mod PowersKept
 pub mod Reached
 pub mod Rowed
 pub mod Passed
-pub mod Weighed
 pub mod Shared
 pub mod Passing
 pub mod Stated

@@ -49,7 +49,3 @@ pub listed-bounds : (kind : ℕ) (table : List ℕ) → soundTable kind table �
 listed-bounds kind table sound {list} {count} n e k l =
     let inside : k < countTerms kind table = omega (arith, n, l) in
     subst Bounds (sym (ap (λ (z : List Term). getD z k blank) e ∙ listed-at kind table (countTerms kind table) k inside)) (sound-bounds kind table sound k inside)
-
--- a list that holds a table's terms has them in place
-pub holds-at : (kind : ℕ) (table : List ℕ) {list : List Term} → list ≡ listed kind table (countTerms kind table) → (k : ℕ) → k < countTerms kind table → getD list k blank ≡ termAt kind table k
-holds-at kind table e k l = ap (λ (z : List Term). getD z k blank) e ∙ listed-at kind table (countTerms kind table) k l

@@ -20,7 +20,7 @@ use Rattle.quick.specs.Unpacked.{blank, listed, AllBounds}
 use Rattle.quick.specs.Powers.{nothing, PowersTo}
 use Rattle.quick.specs.Keys.{keyOf, KeysTo}
 use Rattle.quick.specs.Ready.{noRow, Reaches, SameBefore, RowFor, RowsTo, ReadyFor}
-use Rattle.quick.proofs.Listed.{holds-at}
+use Rattle.quick.proofs.Listed.{listed-at}
 use Rattle.quick.proofs.Alike.{same-key, like-key}
 
 -- a row by the first places of its keys
@@ -37,13 +37,14 @@ module _ (w : ℕ) (list : List Term) (count : ℕ) (bounds : AllBounds list cou
   keyed-like j l e = sym (by-like j (lt-of-le-of-lt l inside)) ∙ e ∙ by-like k inside
 
   pub row-for : (same like : ℕ) → (same ≤ k) × (getD sames same 0 ≡ getD sames k 0) → (like ≤ k) × (getD likes like 0 ≡ getD likes k 0) → {row : Row}
-      → row ≡ record { coefficient = coefficient w (term k); tau = getD taus (term k .t) nothing; same = same; like = like }
+      → row ≡ record { term = term k; coefficient = coefficient w (term k); tau = getD taus (term k .t) nothing; same = same; like = like }
       → RowFor w term (λ t. getD taus t nothing) k row
   row-for same like s l e =
       let p = same-key (term same) (term k) (bounds same (lt-of-le-of-lt (s .0) inside)) (bounds k inside) (keyed-same same (s .0) (s .1)) in
       let q = like-key (term like) (term k) (bounds like (lt-of-le-of-lt (l .0) inside)) (bounds k inside) (keyed-like like (l .0) (l .1)) in
       rw e
       (record {
+        is-term = refl;
         is-coefficient = refl;
         is-tau = refl;
         same = record { before = s .0; same-c = p .0; same-factor = p .1 };
@@ -68,6 +69,7 @@ module _ (w : ℕ) (f g : ℕ → Term) (p q : ℕ → Bracket) (k : ℕ) (same 
   pub row-renamed : (row : Row) → RowFor w f p k row → RowFor w g q k row
   row-renamed row r =
       record {
+        is-term = r .is-term ∙ here;
         is-coefficient = r .is-coefficient ∙ ap (coefficient w) here;
         is-tau = r .is-tau ∙ ap (λ (t : Term). p (t .t)) here ∙ powers;
         same = before-renamed (row .same) (r .same);
@@ -78,13 +80,12 @@ module _ (w : ℕ) (f g : ℕ → Term) (p q : ℕ → Bracket) (k : ℕ) (same 
 -- what is made ready of a list that holds a table's terms
 module _ (w kind : ℕ) (table : List ℕ) (t : Float) {list : List Term} (e : list ≡ listed kind table (countTerms kind table)) {count : ℕ} (n : count ≡ countTerms kind table) where
   term-is : (k : ℕ) → k < countTerms kind table → getD list k blank ≡ termAt kind table k
-  term-is = holds-at kind table e
+  term-is k l = ap (λ (z : List Term). getD z k blank) e ∙ listed-at kind table (countTerms kind table) k l
 
   pub ready-for : (reach : Reach) → Reaches list count reach → {τ : Bracket} → τ ≡ tau w (exactOf t) → (taus : List Bracket) → PowersTo w τ (reach .t) taus → {rows : List Row}
-      → RowsTo w (λ k. getD list k blank) (λ p. getD taus p nothing) rows count → ReadyFor w kind table (record { t = t; list = list; rows = rows; far = reach .d })
+      → RowsTo w (λ k. getD list k blank) (λ p. getD taus p nothing) rows count → ReadyFor w kind table (record { t = t; rows = rows; far = reach .d })
   ready-for reach r {τ} is taus powers {rows} h =
       record {
-        terms = e;
         rows = λ k l.
             let inside : k < count = omega (arith, n, l) in
             let far : termAt kind table k .t ≤ reach .t = subst (λ (z : Term). z .t ≤ reach .t) (term-is k l) (r .t-reached k inside) in

@@ -14,7 +14,7 @@ use Rattle.quick.specs.declared.ready.Reach.{Reach}
 use Rattle.quick.specs.declared.ready.Ready.{Ready}
 use Rattle.quick.specs.Filled.{Filled}
 use Rattle.quick.specs.Powers.{nothing}
-use Rattle.quick.specs.Unpacked.{blank, Holds}
+use Rattle.quick.specs.Unpacked.{blank}
 
 -- no power of a list's first terms is higher
 pub record Reaches (list : List Term) (count : ℕ) (reach : Reach) : Type 0 where
@@ -48,6 +48,7 @@ pub record SameBefore (terms : ℕ → Term) (k place : ℕ) : Type 0 where
 
 -- the k-th row of some terms, by the powers of tau
 pub record RowFor (w : ℕ) (terms : ℕ → Term) (taus : ℕ → Bracket) (k : ℕ) (row : Row) : Type 0 where
+  pub is-term : row .term ≡ terms k
   pub is-coefficient : row .coefficient ≡ coefficient w (terms k)
   pub is-tau : row .tau ≡ taus (terms k .t)
   pub same : SameBefore terms k (row .same)
@@ -56,14 +57,13 @@ pub record RowFor (w : ℕ) (terms : ℕ → Term) (taus : ℕ → Bracket) (k :
 
 -- a row where a list has none
 abbrev pub noRow : Row
-noRow = record { coefficient = nothing; tau = nothing; same = 0; like = 0 }
+noRow = record { term = blank; coefficient = nothing; tau = nothing; same = 0; like = 0 }
 
 abbrev pub RowsTo : ℕ → (ℕ → Term) → (ℕ → Bracket) → List Row → ℕ → Type 0
 RowsTo w terms taus rows n = Filled noRow (RowFor w terms taus) rows n
 
 -- the rows of a table at a temperature, and how far the powers of delta go
 pub record ReadyFor (w kind : ℕ) (table : List ℕ) (ready : Ready) : Type 0 where
-  pub terms : Holds kind table (ready .list)
   pub rows : RowsTo w (termAt kind table) (power w (tau w (exactOf (ready .t)))) (ready .rows) (countTerms kind table)
   pub d-reached : (k : ℕ) → k < countTerms kind table → termAt kind table k .d ≤ ready .far
   pub c-reached : (k : ℕ) → k < countTerms kind table → termAt kind table k .c ≤ ready .far

@@ -1,120 +1,73 @@
-// What terms share at a density, taken once: E and the multiples of g for each c and factor, w and the factor of S2 for each d beside them.
-// The two are kept apart, for a struct that is read often had better be short.
+// What terms of one c, factor and d share at a density, taken once: g, the exponential, w and the factor of S2.
+use crate::ready::Row;
 use bracket::Bracket;
 use sheet::Sheet;
 use term::Term;
 ghost use mathlib.Core.Path.{_≡_};
-ghost use Prim.Native.Nat.{suc, _<_};
+ghost use Prim.Native.Nat.{suc, _<_, _≤_};
 ghost use lib.ListN.{replicate};
-ghost use Rattle.sheet.specs.Range.{Width};
+ghost use Rattle.term.specs.Bounds.{Bounds};
 ghost use Rattle.bracket.specs.Held.{Held};
-ghost use Rattle.equation.specs.Ranged.{WIn};
-ghost use Rattle.quick.specs.Powers.{nothing};
-ghost use Rattle.quick.specs.Kept.{keptOf, weightBy, secondBy, weightsOf, noKept, noWeights, Takeable, Weighable};
+ghost use Rattle.equation.specs.Rules.{scaled};
+ghost use Rattle.equation.specs.Ranged.{GIn};
+ghost use Rattle.quick.specs.Kept.{weighedBy, keptOf, noKept, Keepable};
 
 pub struct Kept {
+    pub g: Bracket,
     pub e: Bracket,
-    pub part: Bracket,
-    pub last: Bracket,
-}
-
-pub struct Weights {
     pub w: Bracket,
     pub s2: Bracket,
 }
 
-// A bracket for places that nothing is kept in.
-fn blank() -> Bracket
-    ensures { λ r. ⌜ r ≡ nothing ⌝ }
+pub fn no_kept() -> [Kept; 64]
+    ensures { λ r. ⌜ r ≡ replicate 64 noKept ⌝ }
 {
     let zero = Sheet {
         neg: false,
         m: 0,
         e: 0,
     };
-    Bracket { lo: zero, hi: zero }
-}
-
-pub fn no_kept() -> [Kept; 64]
-    ensures { λ r. ⌜ r ≡ replicate 64 noKept ⌝ }
-{
-    let nothing = blank();
+    let nothing = Bracket { lo: zero, hi: zero };
     let kept = Kept {
+        g: nothing,
         e: nothing,
-        part: nothing,
-        last: nothing,
+        w: nothing,
+        s2: nothing,
     };
     [kept; 64]
 }
 
-pub fn no_weights() -> [Weights; 64]
-    ensures { λ r. ⌜ r ≡ replicate 64 noWeights ⌝ }
+// By g and E, which c and factor settle.
+fn weighed(v: u64, c: u64, d: u64, g: Bracket, e: Bracket) -> Kept
+    requires { ⌜ ((0 < d) × (d ≤ 31)) × ((c ≤ 15) × GIn v g) ⌝ }
+    ensures { λ r. ⌜ r ≡ weighedBy (suc v) c d g e ⌝ }
 {
-    let nothing = blank();
-    let weights = Weights {
-        w: nothing,
-        s2: nothing,
-    };
-    [weights; 64]
+    let w = equation::term_w(v, d, c, g);
+    let s2 = equation::factor_s2(v, c, g, w);
+    Kept { g, e, w, s2 }
 }
 
-// Of a term at place i, by delta to the power c: what the place `same` kept where it lies before, else the exponential is taken.
-pub fn kept_for(v: u64, i: usize, same: usize, earlier: Kept, term: Term, power: Bracket) -> Kept
-    requires { ⌜ Takeable v term power × (same < i → earlier ≡ keptOf (suc v) (term .c) (term .factor) power) ⌝ }
-    ensures { λ r. ⌜ r ≡ keptOf (suc v) (term .c) (term .factor) power ⌝ }
+// By delta to the power c: the exponential is taken.
+fn fresh(v: u64, term: Term, power: Bracket) -> Kept
+    requires { ⌜ Bounds term × (Held v power × GIn v (scaled (suc v) (term .c) (term .factor) power)) ⌝ }
+    ensures { λ r. ⌜ r ≡ keptOf (suc v) term power ⌝ }
 {
-    if same < i {
-        return earlier;
-    }
     let c = term.c;
     let g = equation::scale(v, c, term.factor, power);
-    let e = equation::factor_e(v, c, g);
-    let part = bracket::product(v, bracket::whole(v, c), g);
-    let last = bracket::product(v, bracket::whole(v, c * c), g);
-    Kept { e, part, last }
+    weighed(v, c, term.d, g, equation::factor_e(v, c, g))
 }
 
-// w; for c = 0 it is d.
-fn weight(v: u64, c: u64, d: u64, part: Bracket) -> Bracket
-    requires { ⌜ Width v × (d < 32) × (0 < c → Held v part) ⌝ }
-    ensures { λ r. ⌜ r ≡ weightBy (suc v) c d part ⌝ }
+// Of a row at place i: what the places `like` and `same` kept, where these lie before it.
+pub fn kept_for(v: u64, i: usize, row: Row, like: Kept, same: Kept, power: Bracket) -> Kept
+    requires { ⌜ Keepable v i row like same power ⌝ }
+    ensures { λ r. ⌜ r ≡ keptOf (suc v) (row .term) power ⌝ }
 {
-    let whole = bracket::whole(v, d);
-    if c == 0 {
-        return whole;
+    let term = row.term;
+    if row.like < i {
+        return like;
     }
-    bracket::difference(v, whole, part)
-}
-
-// The factor of S2; for c = 0 the last part is absent.
-fn second(v: u64, c: u64, tw: Bracket, last: Bracket) -> Bracket
-    requires { ⌜ WIn v tw × (0 < c → Held v last) ⌝ }
-    ensures { λ r. ⌜ r ≡ secondBy (suc v) c tw last ⌝ }
-{
-    let factor = equation::factor_w(v, tw);
-    if c == 0 {
-        return factor;
+    if row.same < i {
+        return weighed(v, term.c, term.d, same.g, same.e);
     }
-    bracket::difference(v, factor, last)
-}
-
-// Of a term at place i: what the place `like` kept where it lies before.
-pub fn weights_for(
-    v: u64,
-    i: usize,
-    like: usize,
-    earlier: Weights,
-    c: u64,
-    d: u64,
-    kept: Kept,
-) -> Weights
-    requires { ⌜ Weighable v c d kept × (like < i → earlier ≡ weightsOf (suc v) c d kept) ⌝ }
-    ensures { λ r. ⌜ r ≡ weightsOf (suc v) c d kept ⌝ }
-{
-    if like < i {
-        return earlier;
-    }
-    let w = weight(v, c, d, kept.part);
-    let s2 = second(v, c, w, kept.last);
-    Weights { w, s2 }
+    fresh(v, term, power)
 }

@@ -21,8 +21,9 @@ use bracket::Bracket;
 use sheet::Sheet;
 use term::Term;
 
-// Of a term: its coefficient and tau to the power t; the first place with its c and factor, and the first with its d too.
+// A term, its coefficient and tau to the power t; `same` is the first place with its c and factor, `like` the first with its d too.
 pub struct Row {
+    pub term: Term,
     pub coefficient: Bracket,
     pub tau: Bracket,
     pub same: usize,
@@ -35,10 +36,9 @@ pub struct Reach {
     pub d: u64,
 }
 
-// The terms and their rows at a temperature, and the highest power of delta that they need.
+// The rows at a temperature, and the highest power of delta that they need.
 pub struct Ready {
     pub t: f64,
-    pub list: [Term; 64],
     pub rows: [Row; 64],
     pub far: u64,
 }
@@ -52,7 +52,16 @@ fn no_rows() -> [Row; 64]
         e: 0,
     };
     let nothing = Bracket { lo: zero, hi: zero };
+    let term = Term {
+        c: 0,
+        factor: 0,
+        d: 0,
+        t: 0,
+        negative: false,
+        magnitude: 0,
+    };
     let row = Row {
+        term,
         coefficient: nothing,
         tau: nothing,
         same: 0,
@@ -91,10 +100,11 @@ fn reach_of(list: [Term; 64], count: usize) -> Reach
 
 fn row_of(v: u64, term: Term, tau: Bracket, same: usize, like: usize) -> Row
     requires { ⌜ Width v ⌝ }
-    ensures { λ r. ⌜ r ≡ record { coefficient = coefficient (suc v) term; tau = tau; same = same; like = like } ⌝ }
+    ensures { λ r. ⌜ r ≡ record { term = term; coefficient = coefficient (suc v) term; tau = tau; same = same; like = like } ⌝ }
 {
     let coefficient = equation::coefficient(v, term);
     Row {
+        term,
         coefficient,
         tau,
         same,
@@ -136,7 +146,6 @@ pub fn made_ready(v: u64, kind: u64, table: &[u8], list: [Term; 64], t: f64) -> 
     let rows = rows_of(v, list, count, taus);
     Ready {
         t,
-        list,
         rows,
         far: far.d,
     }

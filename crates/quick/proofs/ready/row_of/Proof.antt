@@ -8,7 +8,7 @@ coefficient-requires c κs = search needs
 
 returns : tie.Need-returns
 returns c =
-    λ i. record { coefficient = c .coefficient .ensures i; tau = c .before .args .tau; same = c .before .args .same; like = c .before .args .like }
+    λ i. record { term = c .before .args .term; coefficient = c .coefficient .ensures i; tau = c .before .args .tau; same = c .before .args .same; like = c .before .args .like }
 
 pub row-of-spec : {M : Type 1} → statement M
 row-of-spec = tie.close (tie.spec coefficient-requires returns)
