@@ -1,6 +1,6 @@
 -- The table of signs as the product reads it: the ends that meet, by the sign of all of one factor and those of the other's ends. Assumes
 -- nothing.
-use mathlib.Core.Path.{_≡_, refl, _∙_}
+use mathlib.Core.Path.{_≡_, refl, sym, _∙_}
 use mathlib.Core.Bool.{Bool, true, false, not, _&&_, false≢true}
 use Prim.Native.Nat.{ℕ, suc}
 use Rattle.exact.specs.Fraction.{_⊗_}
@@ -60,3 +60,13 @@ signs-across false false true true h = (refl, refl, refl, refl)
 
 pub signs-apart : {p q r : Bool} (s : Bool) → p ≡ false → q ≡ false → r ≡ true → not p && (not q && (r && s)) ≡ false → s ≡ false
 signs-apart s x y z h = rw (x, y, z) at h
+
+-- a bracket that is nowhere below zero starts there; one that is somewhere below it and ends at or above it starts below
+pub signs-above : (p q : Bool) → not p && not q ≡ true → p ≡ false
+signs-above true q h = absurd (false≢true h)
+signs-above false q h = refl
+
+pub signs-below : (p q : Bool) → q ≡ false → not p && not q ≡ false → p ≡ true
+signs-below true q x h = refl
+signs-below false true x h = absurd (false≢true (sym x))
+signs-below false false x h = absurd (false≢true (sym h))

@@ -10,6 +10,10 @@ use Rattle.bracket.specs.declared.Bracket.{Bracket}
 use Rattle.bracket.specs.declared.products.Meeting.{Meeting}
 use Rattle.bracket.specs.Rules.{ends, times}
 
+-- by their signs neither end is below zero
+abbrev pub nowhereBelow : Bracket → Bool
+nowhereBelow b = not (b .lo .neg) && not (b .hi .neg)
+
 -- by their signs both reach across zero
 abbrev pub bothAcross : Bracket → Bracket → Bool
 bothAcross a b = not (a .hi .neg) && (not (b .hi .neg) && (b .lo .neg && a .lo .neg))

@@ -1,17 +1,19 @@
 // The product of brackets. Where one factor has one sign, two roundings do: the signs say which ends meet. Where both reach across zero it
-// takes four. Assumes nothing.
+// takes four. A second factor that is nowhere below zero, as powers and exponentials are, comes first and takes least. Assumes nothing.
 use crate::Bracket;
 use sheet::Sheet;
 ghost use mathlib.Core.Path.{_≡_};
-ghost use mathlib.Core.Bool.{false, cond};
+ghost use mathlib.Core.Bool.{true, false, not, cond};
 ghost use Prim.Native.Nat.{suc};
 ghost use Rattle.exact.specs.Fraction.{least, greatest, leq, _⊗_};
 ghost use Rattle.sheet.specs.Number.{value};
 ghost use Rattle.sheet.specs.Round.{down, up};
+ghost use Rattle.sheet.specs.Range.{InRange};
 ghost use Rattle.sheet.specs.Steps.{BothSpelled};
+ghost use Rattle.bracket.specs.Span.{side};
 ghost use Rattle.bracket.specs.Rules.{ends, times};
 ghost use Rattle.bracket.specs.Held.{Held};
-ghost use Rattle.bracket.specs.Meets.{bothAcross, Meets};
+ghost use Rattle.bracket.specs.Meets.{nowhereBelow, bothAcross, Meets};
 
 // Both are roundings, so the order of their values is decided on the spelling.
 fn lesser(x: Sheet, y: Sheet) -> Sheet
@@ -71,9 +73,49 @@ fn met(p: Sheet, q: Sheet, r: Sheet, s: Sheet) -> Meeting
     Meeting { p, q, r, s }
 }
 
-// The table of signs: b below zero, a below zero, b across zero, a across zero, both at or above zero.
+fn nowhere_below(b: Bracket) -> bool
+    ensures { λ r. ⌜ r ≡ nowhereBelow b ⌝ }
+{
+    if b.lo.neg { false } else { !b.hi.neg }
+}
+
+// The least product of x with a number of b, which is nowhere below zero: an x below zero meets the upper end. Each case has its own
+// rounding, so that the sign is known in it.
+fn least_grown(v: u64, x: Sheet, b: Bracket) -> Sheet
+    requires { ⌜ InRange v x × Held v b ⌝ }
+    ensures { λ r. ⌜ r ≡ down (suc v) (value x ⊗ side (x .neg) (ends b)) ⌝ }
+{
+    if x.neg {
+        return sheet::product(v, false, x, b.hi);
+    }
+    sheet::product(v, false, x, b.lo)
+}
+
+// The greatest: an x below zero meets the lower end.
+fn greatest_grown(v: u64, x: Sheet, b: Bracket) -> Sheet
+    requires { ⌜ InRange v x × Held v b ⌝ }
+    ensures { λ r. ⌜ r ≡ up (suc v) (value x ⊗ side (not (x .neg)) (ends b)) ⌝ }
+{
+    if x.neg {
+        return sheet::product(v, true, x, b.lo);
+    }
+    sheet::product(v, true, x, b.hi)
+}
+
+// By a factor that is nowhere below zero.
+fn grown(v: u64, a: Bracket, b: Bracket) -> Bracket
+    requires { ⌜ Held v a × Held v b × (nowhereBelow b ≡ true) ⌝ }
+    ensures { λ r. ⌜ r ≡ times (suc v) (ends a) (ends b) ⌝ }
+{
+    let lo = least_grown(v, a.lo, b);
+    let hi = greatest_grown(v, a.hi, b);
+    Bracket { lo, hi }
+}
+
+// The table of signs where b is somewhere below zero: all of b, with a below, across, or at or above zero; or b across zero, with a below, or
+// at or above zero.
 fn chosen(v: u64, a: Bracket, b: Bracket) -> Meeting
-    requires { ⌜ Held v a × Held v b × (bothAcross a b ≡ false) ⌝ }
+    requires { ⌜ Held v a × Held v b × (nowhereBelow b ≡ false) × (bothAcross a b ≡ false) ⌝ }
     ensures { λ m. ⌜ Meets v a b m ⌝ }
 {
     if b.hi.neg {
@@ -86,18 +128,9 @@ fn chosen(v: u64, a: Bracket, b: Bracket) -> Meeting
         return met(a.hi, b.lo, a.lo, b.hi);
     }
     if a.hi.neg {
-        if b.lo.neg {
-            return met(b.hi, a.lo, b.lo, a.lo);
-        }
-        return met(b.hi, a.lo, b.lo, a.hi);
+        return met(b.hi, a.lo, b.lo, a.lo);
     }
-    if b.lo.neg {
-        return met(b.lo, a.hi, b.hi, a.hi);
-    }
-    if a.lo.neg {
-        return met(a.lo, b.hi, a.hi, b.hi);
-    }
-    met(a.lo, b.lo, a.hi, b.hi)
+    met(b.lo, a.hi, b.hi, a.hi)
 }
 
 // One place for each end, after the choice, keeps the choice out of memory.
@@ -105,6 +138,9 @@ pub fn product(v: u64, a: Bracket, b: Bracket) -> Bracket
     requires { ⌜ Held v a × Held v b ⌝ }
     ensures { λ r. ⌜ r ≡ times (suc v) (ends a) (ends b) ⌝ }
 {
+    if nowhere_below(b) {
+        return grown(v, a, b);
+    }
     if both_across(a, b) {
         return across(v, a, b);
     }

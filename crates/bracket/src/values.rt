@@ -34,7 +34,8 @@ pub fn given_ratio(v: u64, neg: bool, num: u64, den: u64) -> Bracket
     requires { ⌜ Width v × (0 < den) × (den ≤ 2 ^ 63) ⌝ }
     ensures { λ r. ⌜ r ≡ given (suc v) (parts neg num den) ⌝ }
 {
-    let lo = sheet::ratio(v, false, neg, num, den);
-    let hi = sheet::ratio(v, true, neg, num, den);
+    let x = sheet::ratio(v, neg, num, den);
+    let lo = x.down;
+    let hi = x.up;
     Bracket { lo, hi }
 }

@@ -3,7 +3,7 @@ use crate::Sheet;
 use crate::place::lesser;
 use crate::place::rounded;
 ghost use mathlib.Core.Path.{_≡_};
-ghost use mathlib.Core.Bool.{false};
+ghost use mathlib.Core.Bool.{true, false};
 ghost use Prim.Native.Nat.{suc, _^_, _<_, _≤_};
 ghost use Rattle.exact.specs.Fraction.{nat, parts};
 ghost use Rattle.sheet.specs.Round.{round};
@@ -59,21 +59,33 @@ fn long_division(v: u64, num: u64, den: u64, from: u64) -> Division
     x
 }
 
-// num / den with a sign.
-pub fn ratio(v: u64, up: bool, neg: bool, num: u64, den: u64) -> Sheet
+// A fraction's two roundings.
+pub struct Roundings {
+    pub down: Sheet,
+    pub up: Sheet,
+}
+
+// num / den with a sign, both ways from one division.
+pub fn ratio(v: u64, neg: bool, num: u64, den: u64) -> Roundings
     requires { ⌜ Width v × (0 < den) × (den ≤ 2 ^ 63) ⌝ }
-    ensures { λ r. ⌜ r ≡ round up (suc v) (parts neg num den) ⌝ }
+    ensures { λ r. ⌜ (r .down ≡ round false (suc v) (parts neg num den)) × (r .up ≡ round true (suc v) (parts neg num den)) ⌝ }
 {
     if num == 0 {
-        return Sheet {
+        let zero = Sheet {
             neg: false,
             m: 0,
             e: 0,
         };
+        return Roundings {
+            down: zero,
+            up: zero,
+        };
     }
     let x = long_division(v, num, den, 262144);
     let rest = x.rest;
-    rounded(v, up, neg, x.digits, rest != 0, x.place)
+    let down = rounded(v, false, neg, x.digits, rest != 0, x.place);
+    let up = rounded(v, true, neg, x.digits, rest != 0, x.place);
+    Roundings { down, up }
 }
 
 // A whole number of at most 32 digits is exact, so that one direction serves for both.

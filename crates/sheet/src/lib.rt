@@ -14,6 +14,7 @@ pub use add::sum;
 pub use divide::quotient;
 pub use divide::share;
 pub use further::onward;
+pub use given::Roundings;
 pub use given::ratio;
 pub use given::whole;
 pub use multiply::product;

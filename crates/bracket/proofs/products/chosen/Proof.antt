@@ -10,16 +10,13 @@ use Rattle.bracket.specs.declared.Bracket.{Bracket}
 use Rattle.bracket.specs.Held.{Held}
 use Rattle.bracket.specs.Meets.{Meets}
 use Rattle.bracket.proofs.Ends.{sign-of}
-use Rattle.bracket.proofs.Meetings.{meets, meets-comm, signs-apart}
+use Rattle.bracket.proofs.Meetings.{meets, meets-comm, signs-apart, signs-below}
 use Rattle.bracket.proofs.products.chosen.Statement.{statement}
 use Rattle.bracket.proofs.products.chosen.Tie as tie
 
 -- the lower end is where the upper is, or further from it
 under : {v : ℕ} {b : Bracket} → Held v b → value (b .hi) ≼ nat 0 → value (b .lo) ≼ nat 0
 under h k = ≼-trans (h .order) k
-
-above : {v : ℕ} {b : Bracket} → Held v b → nat 0 ≼ value (b .lo) → nat 0 ≼ value (b .hi)
-above h k = ≼-trans k (h .order)
 
 met-requires : tie.Need-met-requires
 met-requires c κs = search needs
@@ -57,52 +54,24 @@ met-requires-4 c κs = search needs
 
 returns-4 : tie.Need-returns-4
 returns-4 c =
-    let k = c .before .before .before .before .args in
-    let h = c .before .before .before .before .pre in
+    let k = c .before .before .before .args in
+    let h = c .before .before .before .pre in
+    let b = c .before .before .if1 .left in
     subst (Meets (k .v) (k .a) (k .b)) (sym (c .met4 .ensures))
-    (meets-comm (meets true false true (h .1) (h .0) (sign-of (k .a .hi) (c .before .before .if4 .taken)) (sign-of (k .b .hi) (c .before .before .before .if1 .left)) (sign-of (k .b .lo) (c .before .if5 .taken))))
+    (meets-comm (meets true false true (h .1) (h .0) (sign-of (k .a .hi) (c .before .if4 .taken)) (sign-of (k .b .hi) b) (sign-of (k .b .lo) (signs-below (k .b .lo .neg) (k .b .hi .neg) b (h .2)))))
 
 met-requires-5 : tie.Need-met-requires-5
 met-requires-5 c κs = search needs
 
 returns-5 : tie.Need-returns-5
 returns-5 c =
-    let k = c .before .before .before .before .args in
-    let h = c .before .before .before .before .pre in
+    let k = c .before .before .before .args in
+    let h = c .before .before .before .pre in
+    let b = c .before .before .if1 .left in
+    let bl = signs-below (k .b .lo .neg) (k .b .hi .neg) b (h .2) in
+    let al = signs-apart (k .a .lo .neg) (c .before .if4 .left) b bl (h .3) in
     subst (Meets (k .v) (k .a) (k .b)) (sym (c .met5 .ensures))
-    (meets-comm (meets true false false (h .1) (h .0) (sign-of (k .a .hi) (c .before .before .if4 .taken)) (sign-of (k .b .hi) (c .before .before .before .if1 .left)) (sign-of (k .b .lo) (c .before .if5 .left))))
-
-met-requires-6 : tie.Need-met-requires-6
-met-requires-6 c κs = search needs
-
-returns-6 : tie.Need-returns-6
-returns-6 c =
-    let k = c .before .before .before .before .args in
-    let h = c .before .before .before .before .pre in
-    let al = signs-apart (k .a .lo .neg) (c .before .before .if4 .left) (c .before .before .before .if1 .left) (c .before .if6 .taken) (h .2) in
-    subst (Meets (k .v) (k .a) (k .b)) (sym (c .met6 .ensures))
-    (meets-comm (meets false true false (h .1) (h .0) (sign-of (k .a .lo) al) (sign-of (k .b .lo) (c .before .if6 .taken)) (sign-of (k .b .hi) (c .before .before .before .if1 .left))))
-
-met-requires-7 : tie.Need-met-requires-7
-met-requires-7 c κs = search needs
-
-returns-7 : tie.Need-returns-7
-returns-7 c =
-    let k = c .before .before .before .before .before .args in
-    let h = c .before .before .before .before .before .pre in
-    subst (Meets (k .v) (k .a) (k .b)) (sym (c .met7 .ensures))
-    (meets false true false (h .0) (h .1) (sign-of (k .b .lo) (c .before .before .if6 .left)) (sign-of (k .a .lo) (c .before .if7 .taken)) (sign-of (k .a .hi) (c .before .before .before .if4 .left)))
-
-met-requires-8 : tie.Need-met-requires-8
-met-requires-8 c κs = search needs
-
-returns-8 : tie.Need-returns-8
-returns-8 c =
-    let k = c .before .before .before .before .before .args in
-    let h = c .before .before .before .before .before .pre in
-    let al = sign-of (k .a .lo) (c .before .if7 .left) in
-    subst (Meets (k .v) (k .a) (k .b)) (sym (c .met8 .ensures))
-    (meets false false false (h .0) (h .1) (sign-of (k .b .lo) (c .before .before .if6 .left)) al (above (h .0) al))
+    (meets-comm (meets false true false (h .1) (h .0) (sign-of (k .a .lo) al) (sign-of (k .b .lo) bl) (sign-of (k .b .hi) b)))
 
 pub chosen-spec : {M : Type 1} → statement M
 chosen-spec =
@@ -117,10 +86,4 @@ chosen-spec =
     met-requires-4
     returns-4
     met-requires-5
-    returns-5
-    met-requires-6
-    returns-6
-    met-requires-7
-    returns-7
-    met-requires-8
-    returns-8)
+    returns-5)

@@ -7,11 +7,10 @@ use Rattle.bracket.proofs.values.given_ratio.Tie as tie
 ratio-requires : tie.Need-ratio-requires
 ratio-requires c κs = search needs
 
-ratio-requires-2 : tie.Need-ratio-requires-2
-ratio-requires-2 c κs = search needs
-
 returns : tie.Need-returns
-returns c = rounded-is (c .before .before .args .v) (≃-refl _) (c .before .ratio .ensures) (c .ratio2 .ensures)
+returns c =
+    let x = c .before .before .ratio .ensures in
+    rounded-is (c .before .before .before .args .v) (≃-refl _) (x .0) (x .1)
 
 pub given-ratio-spec : {M : Type 1} → statement M
-given-ratio-spec = tie.close (tie.spec ratio-requires ratio-requires-2 returns)
+given-ratio-spec = tie.close (tie.spec ratio-requires returns)

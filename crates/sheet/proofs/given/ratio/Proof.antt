@@ -1,5 +1,6 @@
--- `sheet::given::ratio` meets its contract. Assumes nothing.
+-- `sheet::given::ratio` meets its contract: one division serves both directions. Assumes nothing.
 use mathlib.Core.Path.{sym, _∙_, subst}
+use mathlib.Core.Bool.{true, false}
 use Prim.Native.Nat.{ℕ, _*_, _^_}
 use borrow.Author.Needs.{needs}
 use Rattle.sheet.specs.Number.{bias}
@@ -13,7 +14,8 @@ use Rattle.sheet.proofs.given.ratio.Tie as tie
 returns : tie.Need-returns
 returns c =
     let k = c .before .args in
-    sym (ratio-zero (k .up) (k .v) (k .neg) (k .num) (k .den) (c .if1 .taken))
+    let z = c .if1 .taken in
+    (sym (ratio-zero false (k .v) (k .neg) (k .num) (k .den) z), sym (ratio-zero true (k .v) (k .neg) (k .num) (k .den) z))
 
 long-division-requires : tie.Need-long-division-requires
 long-division-requires c κs = search needs
@@ -21,14 +23,19 @@ long-division-requires c κs = search needs
 rounded-requires : tie.Need-rounded-requires
 rounded-requires c κs = search needs
 
+rounded-requires-2 : tie.Need-rounded-requires-2
+rounded-requires-2 c κs = search needs
+
 returns-2 : tie.Need-returns-2
 returns-2 c =
-    let s = c .before .before .before in
+    let s = c .before .before .before .before in
     let k = s .args in
-    let x = c .before .long-division in
+    let x = c .before .before .long-division in
     let d = subst (λ (i : ℕ). Dividing (k .num) (k .den) i (x .result)) (sym bias-is) (x .ensures .found) in
-    c .rounded .ensures (k .num * 2 ^ bias) (k .den) (division-place (k .num) (k .den) bias (x .result) d)
-    ∙ sym (ratio-is (k .up) (k .v) (k .neg) (k .num) (k .den) (s .pre .1))
+    let at = division-place (k .num) (k .den) bias (x .result) d in (
+      c .before .rounded .ensures (k .num * 2 ^ bias) (k .den) at ∙ sym (ratio-is false (k .v) (k .neg) (k .num) (k .den) (s .pre .1)),
+      c .rounded2 .ensures (k .num * 2 ^ bias) (k .den) at ∙ sym (ratio-is true (k .v) (k .neg) (k .num) (k .den) (s .pre .1)),
+    )
 
 pub ratio-spec : {M : Type 1} → statement M
-ratio-spec = tie.close (tie.spec returns long-division-requires rounded-requires returns-2)
+ratio-spec = tie.close (tie.spec returns long-division-requires rounded-requires rounded-requires-2 returns-2)
