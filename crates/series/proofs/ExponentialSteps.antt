@@ -23,8 +23,7 @@ use Rattle.bracket.specs.Rules.{ends, given, plus, times, divided, addlast, str
 use Rattle.bracket.proofs.Operands.{whole-divided}
 use Rattle.measure.proofs.Sizes.{Positive}
 use Rattle.series.specs.Exponential.{expTerm, expSum, expTotal, expneg}
-use Rattle.series.specs.Terms.{Factor, Taken, termsTo}
-use Rattle.series.specs.declared.exponential.Terms.{Terms}
+use Rattle.series.specs.Terms.{Terms, Factor, Taken, termsTo}
 use Rattle.series.proofs.Short.{bias-room}
 use Rattle.series.proofs.Units.{unit-part, unit-nat, unit-pos}
 use Rattle.series.proofs.ExponentialHeld as held
@@ -92,9 +91,8 @@ module _ {v : ℕ} (w : Width v) {X : Span} (f : Taken X) {k : ℕ} {s : Terms} 
   pub sum-held : Held v (s .sum)
   sum-held = held-as (ap (λ (s : Terms). s .sum) e) (expSum-held w f k h)
 
-  pub product-held : {p : Bracket} → p ≡ times (suc v) (ends (s .term)) X → Held v p
-  product-held i =
-      held-as (i ∙ ap (λ (s : Terms). times (suc v) (ends (s .term)) X) e) (expProduct-held w f k h)
+pub product-held : {v : ℕ} → Width v → {X : Span} → Taken X → {k : ℕ} {t p : Bracket} → k ≤ 256 → t ≡ expTerm (suc v) X k → p ≡ times (suc v) (ends t) X → Held v p
+product-held {v} w {X} f {k} h e i = held-as (i ∙ ap (λ (b : Bracket). times (suc v) (ends b) X) e) (expProduct-held w f k h)
 
 -- ---- where the sum only stretches: the tests on places and digits are what the law asks for
 high-some : {v : ℕ} {x : Bracket} → Held v x → Taken (ends x) → (x .hi .m ≡ 0 → ⊥) → nat 0 ≺ value (x .hi)

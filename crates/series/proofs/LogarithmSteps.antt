@@ -13,8 +13,7 @@ use Rattle.bracket.specs.Held.{Held}
 use Rattle.bracket.specs.Rules.{ends, given, plus, times, divided, addlast}
 use Rattle.bracket.proofs.Operands.{times-whole}
 use Rattle.series.specs.Logarithm.{lnPower, lnQuotient, lnSum, lnTotal, lnSeries}
-use Rattle.series.specs.Powers.{Argument, powersTo}
-use Rattle.series.specs.declared.logarithm.Powers.{Powers}
+use Rattle.series.specs.Powers.{Argument, Powers, powersTo}
 use Rattle.series.proofs.ExponentialSteps.{held-as}
 use Rattle.series.proofs.LogarithmHeld as held
 

@@ -5,7 +5,7 @@ use Rattle.exact.specs.Fraction.{nat, parts, _≼_}
 use Rattle.sheet.specs.Number.{bias}
 use Rattle.bracket.specs.Span.{Span, Each}
 use Rattle.measure.specs.Measure.{Sized}
-use Rattle.series.specs.declared.exponential.Terms.{Terms}
+use Rattle.bracket.specs.declared.Bracket.{Bracket}
 use Rattle.series.specs.Exponential.{expTerm, expSum}
 
 -- what the code takes: from 0 to 128, each end zero or at least 2^-292
@@ -20,5 +20,10 @@ pub record Factor (X : Span) : Type 0 where
   pub order : X .low ≼ X .high
   pub most : X .high ≼ nat 64
 
+pub record Terms : Type 0 where
+  pub term : Bracket
+  pub sum : Bracket
+
+-- term k, and the sum of the terms 0 to k
 abbrev pub termsTo : ℕ → Span → ℕ → Terms
 termsTo w X k = record { term = expTerm w X k; sum = expSum w X k }

@@ -6,35 +6,27 @@ ghost use mathlib.Core.Bool.{true};
 ghost use Prim.Native.Nat.{suc, _+_, _-_, _<_};
 ghost use Rattle.bracket.specs.Rules.{ends, stretched};
 ghost use Rattle.bracket.specs.Held.{Held};
-ghost use Rattle.series.specs.Exponential.{expTotal, expneg};
+ghost use Rattle.series.specs.Exponential.{expTerm, expTotal, expneg};
 ghost use Rattle.series.specs.Terms.{Taken, termsTo};
 
-// Term k, and the sum of the terms 0 to k.
-struct Terms {
-    term: Bracket,
-    sum: Bracket,
-}
-
 // Term k + 1 is (term k times x) divided by k + 1.
-fn one_more(v: u64, x: Bracket, s: Terms, k: u64) -> Terms
-    requires { ⌜ Held v x × Taken (ends x) × (k < 256) × (s ≡ termsTo (suc v) (ends x) k) ⌝ }
-    ensures { λ r. ⌜ r ≡ termsTo (suc v) (ends x) (k + 1) ⌝ }
+fn next_term(v: u64, x: Bracket, term: Bracket, k: u64) -> Bracket
+    requires { ⌜ Held v x × Taken (ends x) × (k < 256) × (term ≡ expTerm (suc v) (ends x) k) ⌝ }
+    ensures { λ r. ⌜ r ≡ expTerm (suc v) (ends x) (k + 1) ⌝ }
 {
-    let product = bracket::product(v, s.term, x);
-    let term = bracket::share(v, product, k + 1);
-    let sum = bracket::sum(v, s.sum, term);
-    Terms { term, sum }
+    let product = bracket::product(v, term, x);
+    bracket::share(v, product, k + 1)
 }
 
 // Whether every step from here on only moves the sum's upper end to the next sheet number: the terms are above zero and no longer grow, and
 // the power of two above term k lies below one unit of the sum's last place. Each term to come takes such a step, and so does the last one
 // when it counts once more.
-fn only_stretches(v: u64, x: Bracket, s: Terms, k: u64) -> bool
-    requires { ⌜ Held v x × Taken (ends x) × (k < 256) × (s ≡ termsTo (suc v) (ends x) k) ⌝ }
-    ensures { λ r. ⌜ (r ≡ true → expTotal (suc v) (ends x) ≡ stretched (suc v) (257 - k) (s .sum)) ⌝ }
+fn only_stretches(v: u64, x: Bracket, term: Bracket, sum: Bracket, k: u64) -> bool
+    requires { ⌜ Held v x × Taken (ends x) × (k < 256) × (record { term = term; sum = sum } ≡ termsTo (suc v) (ends x) k) ⌝ }
+    ensures { λ r. ⌜ (r ≡ true → expTotal (suc v) (ends x) ≡ stretched (suc v) (257 - k) sum) ⌝ }
 {
-    let term_place = s.term.hi.e;
-    let sum_place = s.sum.lo.e;
+    let term_place = term.hi.e;
+    let sum_place = sum.lo.e;
     let digits = x.hi.m;
     if sum_place <= term_place + v + 1 {
         return false;
@@ -51,19 +43,18 @@ fn total(v: u64, x: Bracket) -> Bracket
     ensures { λ r. ⌜ r ≡ expTotal (suc v) (ends x) ⌝ }
 {
     let one = bracket::whole(v, 1);
-    let mut s = Terms {
-        term: one,
-        sum: one,
-    };
+    let mut term = one;
+    let mut sum = one;
     let mut k = 0;
     while k < 256 {
-        if only_stretches(v, x, s, k) {
-            return bracket::stretched(v, s.sum, 257 - k);
+        if only_stretches(v, x, term, sum, k) {
+            return bracket::stretched(v, sum, 257 - k);
         }
-        s = one_more(v, x, s, k);
+        term = next_term(v, x, term, k);
+        sum = bracket::sum(v, sum, term);
         k += 1;
     }
-    bracket::add_last(v, s.sum, s.term)
+    bracket::add_last(v, sum, term)
 }
 
 // 1 divided by that.

@@ -1,19 +1,13 @@
 // The logarithm's series: odd powers of z, each divided by its own exponent, summed left to right and doubled.
 use bracket::Bracket;
 ghost use mathlib.Core.Path.{_≡_};
-ghost use Prim.Native.Nat.{suc, _+_, _*_, _<_, _≤_};
+ghost use Prim.Native.Nat.{suc, _+_, _*_, _≤_};
 ghost use Rattle.sheet.specs.Range.{Width};
-ghost use Rattle.bracket.specs.Rules.{ends, times, divided};
+ghost use Rattle.bracket.specs.Rules.{ends, divided};
 ghost use Rattle.bracket.specs.Span.{whole};
 ghost use Rattle.bracket.specs.Held.{Held};
 ghost use Rattle.series.specs.Logarithm.{lnSeries, lnTwo};
-ghost use Rattle.series.specs.Powers.{Argument, powersTo};
-
-// Power j, and the sum of the quotients 0 to j.
-struct Powers {
-    power: Bracket,
-    sum: Bracket,
-}
+ghost use Rattle.series.specs.Powers.{Argument};
 
 // Power j divided by 2j + 1.
 fn share(v: u64, power: Bracket, j: u64) -> Bracket
@@ -23,32 +17,22 @@ fn share(v: u64, power: Bracket, j: u64) -> Bracket
     bracket::share(v, power, 2 * j + 1)
 }
 
-// The next power is the one before times (z times z).
-fn one_more(v: u64, z: Bracket, square: Bracket, s: Powers, j: u64) -> Powers
-    requires { ⌜ Argument v z × (j < 20) × (square ≡ times (suc v) (ends z) (ends z)) × (s ≡ powersTo (suc v) z j) ⌝ }
-    ensures { λ r. ⌜ r ≡ powersTo (suc v) z (j + 1) ⌝ }
-{
-    let power = bracket::product(v, s.power, square);
-    let sum = bracket::sum(v, s.sum, share(v, power, j + 1));
-    Powers { power, sum }
-}
-
-// The last quotient's upper end counts once more in the upper end of the sum; then doubled.
+// The next power is the one before times (z times z). The last quotient's upper end counts once more in the upper end of the sum; then
+// doubled.
 pub fn ln_series(v: u64, z: Bracket) -> Bracket
     requires { ⌜ Argument v z ⌝ }
     ensures { λ r. ⌜ r ≡ lnSeries (suc v) z ⌝ }
 {
     let square = bracket::product(v, z, z);
-    let mut s = Powers {
-        power: z,
-        sum: share(v, z, 0),
-    };
+    let mut power = z;
+    let mut sum = share(v, z, 0);
     let mut j = 0;
     while j < 20 {
-        s = one_more(v, z, square, s, j);
+        power = bracket::product(v, power, square);
+        sum = bracket::sum(v, sum, share(v, power, j + 1));
         j += 1;
     }
-    let total = bracket::add_last(v, s.sum, share(v, s.power, 20));
+    let total = bracket::add_last(v, sum, share(v, power, 20));
     bracket::product(v, bracket::whole(v, 2), total)
 }
 

@@ -1,21 +1,22 @@
 -- `series::exponential::total` meets its contract. The loop's invariant: the state is the rule's term and sum to k. Assumes nothing.
-use mathlib.Core.Path.{_≡_, sym, _∙_}
-use Prim.Native.Nat.{suc, _-_, _≤_}
+use mathlib.Core.Path.{_≡_, sym, ap, _∙_}
+use Prim.Native.Nat.{suc, _+_, _-_, _≤_}
 use native.Mathlib.Omega.{arith}
 use borrow.Author.Needs.{needs}
 use lib.Dec.{lit≤}
 use lib.Pow.{pow-mono}
 use Rattle.bracket.specs.Rules.{ends}
-use Rattle.series.specs.Terms.{termsTo}
-use Rattle.series.proofs.ExponentialSteps.{term-held, sum-held, expTerm-first, expSum-first, total-last}
+use Rattle.series.specs.Terms.{Terms, termsTo}
+use Rattle.series.proofs.ExponentialHeld.{expTerm-held}
+use Rattle.series.proofs.ExponentialSteps.{held-as, term-held, sum-held, sum-next, expTerm-first, expSum-first, total-last}
 use Rattle.series.proofs.exponential.total.Statement.{statement}
 use Rattle.series.proofs.exponential.total.Tie as tie
 
 abbrev Inv-loop : tie.InvT-loop
-Inv-loop v x s₀ k₀ s k = (k ≤ 256) × (s ≡ termsTo (suc v) (ends x) k)
+Inv-loop v x term₀ sum₀ k₀ term sum k = (k ≤ 256) × (record { term = term; sum = sum } ≡ termsTo (suc v) (ends x) k)
 
 abbrev μ-loop : tie.MeasureT-loop
-μ-loop v x s₀ k₀ s k = 256 - k
+μ-loop v x term₀ sum₀ k₀ term sum k = 256 - k
 
 whole-requires : tie.Need-whole-requires Inv-loop μ-loop
 whole-requires c κs = (c .pre .0 .lo .width, lit≤ tt)
@@ -46,10 +47,17 @@ stretched-requires c κs =
 returns : tie.Need-returns Inv-loop μ-loop
 returns c = c .stretched .ensures ∙ sym (c .before .before .only-stretches .ensures (c .before .if1 .taken))
 
-one-more-requires : tie.Need-one-more-requires Inv-loop μ-loop
-one-more-requires c κs =
+next-term-requires : tie.Need-next-term-requires Inv-loop μ-loop
+next-term-requires c κs =
     let p = c .before .before .before .before .before .pre in
-    (p .0, p .1, omega arith, c .before .before .before .loop .inv .1)
+    (p .0, p .1, omega arith, ap (λ (s : Terms). s .term) (c .before .before .before .loop .inv .1))
+
+sum-requires : tie.Need-sum-requires Inv-loop μ-loop
+sum-requires c κs =
+    let p = c .before .before .before .before .before .before .pre in
+    let w = p .0 .lo .width in
+    let l = c .before .before .before .before .loop in
+    (sum-held w (p .1) (l .inv .0) (l .inv .1), held-as (c .next-term .ensures) (expTerm-held w (p .1) (l .k + 1) (omega arith)))
 
 add-k : tie.Need-add-k Inv-loop μ-loop
 add-k c = search needs
@@ -58,7 +66,12 @@ loop-less : tie.Need-loop-less Inv-loop μ-loop
 loop-less c = search needs
 
 loop-again : tie.Need-loop-again Inv-loop μ-loop
-loop-again c = (omega arith, c .one-more .ensures)
+loop-again c =
+    let a = c .before .before .before .before .before .before .before .args in
+    let l = c .before .before .before .before .before .loop in
+    let e = c .before .next-term .ensures in
+    let f = sum-next (suc (a .v)) (ends (a .x)) (l .k) (ap (λ (s : Terms). s .sum) (l .inv .1)) e (c .sum .ensures) in
+    (omega arith, λ i. record { term = e i; sum = f i })
 
 add-last-requires : tie.Need-add-last-requires Inv-loop μ-loop
 add-last-requires c κs =
@@ -87,7 +100,8 @@ total-spec =
     sub-stretched
     stretched-requires
     returns
-    one-more-requires
+    next-term-requires
+    sum-requires
     add-k
     loop-less
     loop-again
