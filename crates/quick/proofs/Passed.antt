@@ -1,12 +1,14 @@
 -- The pass over the rows: the sums that it gathers, by rows and powers of delta, are the rule's; and what an earlier place kept is a later
 -- term's own. Assumes nothing.
 use mathlib.Core.Path.{_≡_, refl, sym, ap, ap₂, subst, _∙_}
+use mathlib.Core.Logic.{inl, inr}
 use mathlib.Core.List.{List}
 use Prim.Native.Nat.{ℕ, zero, suc, _+_, _≤_, _<_}
 use native.Mathlib.Nat.{le-refl, le-trans}
 use native.Mathlib.Numerals.{add-one}
 use native.Mathlib.Omega.{arith}
-use lib.ListN.{getD}
+use lib.ListN.{length, set, getD}
+use lib.Seq.{getD-set-same, getD-set-other}
 use Rattle.term.specs.declared.Term.{Term}
 use Rattle.term.specs.Bounds.{Bounds}
 use Rattle.bracket.specs.declared.Bracket.{Bracket}
@@ -17,11 +19,15 @@ use Rattle.equation.specs.Rules.{scaled, factorE, coefficient, addends, plusEac
 use Rattle.equation.proofs.Holds.{delta-power-held, term-g-in}
 use Rattle.quick.specs.declared.ready.Row.{Row}
 use Rattle.quick.specs.declared.kept.Kept.{Kept}
-use Rattle.quick.specs.Filled.{Filled}
 use Rattle.quick.specs.Powers.{nothing}
 use Rattle.quick.specs.Ready.{noRow, RowFor, RowsTo}
-use Rattle.quick.specs.Kept.{weighedBy, keptOf, noKept, addendsBy, Keepable, Addable}
+use Rattle.quick.specs.Kept.{weighedBy, keptOf, addendsBy, Keepable, Addable}
+use Rattle.quick.proofs.Filled.{over-or-less}
 use Rattle.quick.proofs.Shared.{addends-by, term-addable}
+
+-- what four lists keep at a place
+abbrev pub keptAt : (gs es ws factors : List Bracket) → ℕ → Kept
+keptAt gs es ws factors k = record { g = getD gs k nothing; e = getD es k nothing; w = getD ws k nothing; s2 = getD factors k nothing }
 
 -- ---- by rows and powers of delta alone
 
@@ -33,7 +39,7 @@ module _ (w : ℕ) (rows : List Row) (deltas : List Bracket) where
   keptRow k = keptOf w (rowAt k .term) (getD deltas (rowAt k .term .c) nothing)
 
   abbrev pub addRow : ℕ → Sums
-  addRow k = addendsBy w (rowAt k .coefficient) (getD deltas (rowAt k .term .d) nothing) (rowAt k .tau) (keptRow k)
+  addRow k = addendsBy w (rowAt k .coefficient) (getD deltas (rowAt k .term .d) nothing) (rowAt k .tau) (keptRow k .e) (keptRow k .w) (keptRow k .s2)
 
   unfoldable pub sumsRows : ℕ → Sums
   sumsRows zero = noSums w
@@ -46,6 +52,10 @@ module _ (w : ℕ) (rows : List Row) (deltas : List Bracket) where
   pub rows-more : (n : ℕ) → plusEach w (sumsRows n) (addRow n) ≡ sumsRows (n + 1)
   unfolding sumsRows
   rows-more n = rw add-one
+
+  -- what the first i rows share lies where each of them looks for it
+  abbrev pub KeptTo : (gs es ws factors : List Bracket) → ℕ → Type 0
+  KeptTo gs es ws factors i = (k : ℕ) → k < i → keptAt gs es ws factors (rowAt k .like) ≡ keptRow k
 
 -- ---- what c, factor and d settle
 
@@ -77,8 +87,8 @@ module _ {v : ℕ} (terms : ℕ → Term) (δ τ : Bracket) (rows : List Row) (d
 
   is-addend : (k : ℕ) → k < n → addRow (suc v) rows deltas k ≡ addends (suc v) (terms k) δ τ
   is-addend k l =
-      ap₂ (λ (x y : Bracket). addendsBy (suc v) x y (getD rows k noRow .tau) (keptRow (suc v) rows deltas k)) (rowed k l .is-coefficient) (is-delta k l)
-      ∙ ap₂ (λ (x : Bracket) (y : Kept). addendsBy (suc v) (coefficient (suc v) (terms k)) (power (suc v) δ (terms k .d)) x y) (rowed k l .is-tau) (is-kept k l)
+      ap₂ (λ (x y : Bracket). addendsBy (suc v) x y (getD rows k noRow .tau) (keptRow (suc v) rows deltas k .e) (keptRow (suc v) rows deltas k .w) (keptRow (suc v) rows deltas k .s2)) (rowed k l .is-coefficient) (is-delta k l)
+      ∙ ap₂ (λ (x : Bracket) (y : Kept). addendsBy (suc v) (coefficient (suc v) (terms k)) (power (suc v) δ (terms k .d)) x (y .e) (y .w) (y .s2)) (rowed k l .is-tau) (is-kept k l)
       ∙ addends-by (suc v) (terms k) δ τ
 
   pub rows-sums : (m : ℕ) → m ≤ n → sumsRows (suc v) rows deltas m ≡ sumsFirst (suc v) terms δ τ m
@@ -86,17 +96,43 @@ module _ {v : ℕ} (terms : ℕ → Term) (δ τ : Bracket) (rows : List Row) (d
   rows-sums zero l = refl
   rows-sums (suc m) l = ap₂ (plusEach (suc v)) (rows-sums m (omega arith)) (is-addend m l)
 
+  -- the first place with a row's c, factor and d is its own first, and so is the first with its c and factor
+  like-first : (k : ℕ) → k < n → getD rows (getD rows k noRow .like) noRow .like ≡ getD rows k noRow .like
+  like-first k l =
+      let r = rowed k l in
+      let b = r .like .before in
+      let s = rowed (getD rows k noRow .like) (omega arith) in
+      let over : getD rows k noRow .like ≤ getD rows (getD rows k noRow .like) noRow .like = elim (over-or-less (getD rows k noRow .like) (getD rows (getD rows k noRow .like) noRow .like)) [
+        | inl h ↦ h
+        | inr h ↦ absurd (r .like-first _ h (s .like .same-c ∙ r .like .same-c) (s .like .same-factor ∙ r .like .same-factor) (s .like-d ∙ r .like-d))
+      ] in
+      let under = s .like .before in
+      omega arith
+
+  same-first : (k : ℕ) → k < n → getD rows (getD rows k noRow .same) noRow .like ≡ getD rows k noRow .same
+  same-first k l =
+      let r = rowed k l in
+      let b = r .same .before in
+      let s = rowed (getD rows k noRow .same) (omega arith) in
+      let over : getD rows k noRow .same ≤ getD rows (getD rows k noRow .same) noRow .like = elim (over-or-less (getD rows k noRow .same) (getD rows (getD rows k noRow .same) noRow .like)) [
+        | inl h ↦ h
+        | inr h ↦ absurd (r .same-first _ h (s .like .same-c ∙ r .same .same-c) (s .like .same-factor ∙ r .same .same-factor))
+      ] in
+      let under = s .like .before in
+      omega arith
+
   -- what earlier places kept
-  module _ (kept : List Kept) (i : ℕ) (inside : i < n) (filled : Filled noKept (λ k x. x ≡ keptRow (suc v) rows deltas k) kept i) where
+  module _ (gs es ws factors : List Bracket) (i : ℕ) (inside : i < n) (kept : KeptTo (suc v) rows deltas gs es ws factors i) where
     abbrev row : Row
     row = getD rows i noRow
 
     abbrev P : Bracket
     P = getD deltas (row .term .c) nothing
 
-    -- at an earlier place with this term's c and factor
-    earlier : (j : ℕ) → j < i → terms j .c ≡ terms i .c → getD kept j noKept ≡ keptOf (suc v) (terms j) (power (suc v) δ (terms i .c))
-    earlier j l c = filled j l ∙ is-kept j (omega arith) ∙ ap (λ (m : ℕ). keptOf (suc v) (terms j) (power (suc v) δ m)) c
+    -- at an earlier place that is its own first, with this term's c
+    earlier : (j : ℕ) → j < i → getD rows j noRow .like ≡ j → terms j .c ≡ terms i .c → keptAt gs es ws factors j ≡ keptOf (suc v) (terms j) (power (suc v) δ (terms i .c))
+    earlier j l first c =
+        ap (keptAt gs es ws factors) (sym first) ∙ kept j l ∙ is-kept j (omega arith) ∙ ap (λ (m : ℕ). keptOf (suc v) (terms j) (power (suc v) δ m)) c
 
     own : keptOf (suc v) (terms i) (power (suc v) δ (terms i .c)) ≡ keptOf (suc v) (row .term) P
     own = sym (is-kept i inside)
@@ -107,20 +143,66 @@ module _ {v : ℕ} (terms : ℕ → Term) (δ τ : Bracket) (rows : List Row) (d
     power-here : power (suc v) δ (terms i .c) ≡ P
     power-here = sym (by-c i inside) ∙ ap (λ (t : Term). getD deltas (t .c) nothing) term
 
-    pub row-keepable : Bounds (terms i) → DeltaIn v δ → Keepable v i (getD rows i noRow) (getD kept (getD rows i noRow .like) noKept) (getD kept (getD rows i noRow .same) noKept) (getD deltas (getD rows i noRow .term .c) nothing)
+    pub row-keepable : Bounds (terms i) → DeltaIn v δ → Keepable v i (getD rows i noRow) (getD gs (getD rows i noRow .same) nothing) (getD es (getD rows i noRow .same) nothing) (getD deltas (getD rows i noRow .term .c) nothing)
     row-keepable b p =
         let r = rowed i inside in
+        let before : row .same < i → keptAt gs es ws factors (row .same) ≡ keptOf (suc v) (terms (row .same)) (power (suc v) δ (terms i .c)) = λ l. earlier (row .same) l (same-first i inside) (r .same .same-c) in
         record {
           bounds = subst Bounds term b;
           power-held = rw (← power-here) (delta-power-held δ p (terms i .c) (let m = b .c-most in omega arith));
           g-in = rw (← power-here, ← term) (term-g-in δ p (terms i) b);
-          like-kept = λ l. earlier (row .like) l (r .like .same-c) ∙ kept-alike (suc v) _ _ _ (r .like .same-c) (r .like .same-factor) (r .like-d) ∙ own;
-          same-g = λ l. ap (λ (k : Kept). k .g) (earlier (row .same) l (r .same .same-c)) ∙ kept-g (suc v) (terms (row .same)) (terms i) (power (suc v) δ (terms i .c)) (r .same .same-c) (r .same .same-factor) ∙ rw (← power-here, ← term);
-          same-e = λ l. ap (λ (k : Kept). k .e) (earlier (row .same) l (r .same .same-c)) ∙ kept-e (suc v) (terms (row .same)) (terms i) (power (suc v) δ (terms i .c)) (r .same .same-c) (r .same .same-factor) ∙ rw (← power-here, ← term);
+          same-g = λ l. ap (λ (k : Kept). k .g) (before l) ∙ kept-g (suc v) (terms (row .same)) (terms i) (power (suc v) δ (terms i .c)) (r .same .same-c) (r .same .same-factor) ∙ rw (← power-here, ← term);
+          same-e = λ l. ap (λ (k : Kept). k .e) (before l) ∙ kept-e (suc v) (terms (row .same)) (terms i) (power (suc v) δ (terms i .c)) (r .same .same-c) (r .same .same-factor) ∙ rw (← power-here, ← term);
         }
 
-    pub row-addable : Bounds (terms i) → DeltaIn v δ → TauIn v τ
-        → Addable v (getD rows i noRow .coefficient) (getD deltas (getD rows i noRow .term .d) nothing) (getD rows i noRow .tau) (keptRow (suc v) rows deltas i)
-    row-addable b p q =
+    -- one row more that finds what it shares
+    pub kept-found : (getD rows i noRow .like ≡ i → ⊥) → KeptTo (suc v) rows deltas gs es ws factors (i + 1)
+    kept-found other k l =
         let r = rowed i inside in
-        rw (r .is-coefficient, is-delta i inside, r .is-tau, is-kept i inside) (term-addable (terms i) δ τ b p q)
+        let b = r .like .before in
+        elim (over-or-less i k) [
+          | inl over ↦
+              let is : i ≡ k = omega arith in
+              let less : row .like < i = omega (arith, other) in
+              subst (λ (m : ℕ). keptAt gs es ws factors (getD rows m noRow .like) ≡ keptRow (suc v) rows deltas m) is
+              (earlier (row .like) less (like-first i inside) (r .like .same-c) ∙ kept-alike (suc v) _ _ _ (r .like .same-c) (r .like .same-factor) (r .like-d) ∙ own)
+          | inr less ↦ kept k less
+        ]
+
+    -- one row more that is the first
+    pub kept-new : (x : Kept) → x ≡ keptOf (suc v) (getD rows i noRow .term) (getD deltas (getD rows i noRow .term .c) nothing) → getD rows i noRow .like ≡ i
+        → (i < length gs) × (i < length es) × (i < length ws) × (i < length factors)
+        → KeptTo (suc v) rows deltas (set gs i (x .g)) (set es i (x .e)) (set ws i (x .w)) (set factors i (x .s2)) (i + 1)
+    kept-new x e first h k l =
+        elim (over-or-less i k) [
+          | inl over ↦
+              let is : i ≡ k = omega arith in
+              subst (λ (m : ℕ). keptAt (set gs i (x .g)) (set es i (x .e)) (set ws i (x .w)) (set factors i (x .s2)) (getD rows m noRow .like) ≡ keptRow (suc v) rows deltas m) is
+              (ap (keptAt (set gs i (x .g)) (set es i (x .e)) (set ws i (x .w)) (set factors i (x .s2))) first
+              ∙ (λ t.
+              record {
+                g = getD-set-same gs i (x .g) nothing (h .0) t;
+                e = getD-set-same es i (x .e) nothing (h .1) t;
+                w = getD-set-same ws i (x .w) nothing (h .2) t;
+                s2 = getD-set-same factors i (x .s2) nothing (h .3) t;
+              })
+              ∙ e)
+          | inr less ↦
+              let b = rowed k (omega arith) .like .before in
+              let q = getD rows k noRow .like in
+              let apart : q ≡ i → ⊥ = λ z. omega arith in
+              (λ t.
+              record {
+                g = getD-set-other gs i q (x .g) nothing apart t;
+                e = getD-set-other es i q (x .e) nothing apart t;
+                w = getD-set-other ws i q (x .w) nothing apart t;
+                s2 = getD-set-other factors i q (x .s2) nothing apart t;
+              })
+              ∙ kept k less
+        ]
+
+  pub row-addable : (i : ℕ) → i < n → Bounds (terms i) → DeltaIn v δ → TauIn v τ
+      → Addable v (getD rows i noRow .coefficient) (getD deltas (getD rows i noRow .term .d) nothing) (getD rows i noRow .tau) (keptRow (suc v) rows deltas i .e) (keptRow (suc v) rows deltas i .w) (keptRow (suc v) rows deltas i .s2)
+  row-addable i inside b p q =
+      let r = rowed i inside in
+      rw (r .is-coefficient, is-delta i inside, r .is-tau, is-kept i inside) (term-addable (terms i) δ τ b p q)

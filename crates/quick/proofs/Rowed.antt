@@ -1,8 +1,8 @@
 -- The rows of a list of terms: each by the keys of the list, and the same rows by a table's own terms. Assumes nothing.
-use mathlib.Core.Path.{_≡_, refl, sym, ap, subst, _∙_}
+use mathlib.Core.Path.{_≡_, refl, sym, ap, ap₂, subst, _∙_}
 use mathlib.Core.Bool.{true, false}
 use mathlib.Core.List.{List}
-use Prim.Native.Nat.{ℕ, suc, _≤_, _<_}
+use Prim.Native.Nat.{ℕ, suc, _+_, _*_, _≤_, _<_}
 use native.Mathlib.Nat.{le-refl, lt-of-le-of-lt}
 use native.Mathlib.Omega.{arith}
 use lib.ListN.{getD}
@@ -18,7 +18,7 @@ use Rattle.quick.specs.declared.ready.Row.{Row}
 use Rattle.quick.specs.declared.ready.Reach.{Reach}
 use Rattle.quick.specs.Unpacked.{blank, listed, AllBounds}
 use Rattle.quick.specs.Powers.{nothing, PowersTo}
-use Rattle.quick.specs.Keys.{keyOf, KeysTo}
+use Rattle.quick.specs.Keys.{keyOf, KeysTo, FirstLike}
 use Rattle.quick.specs.Ready.{noRow, Reaches, SameBefore, RowFor, RowsTo, ReadyFor}
 use Rattle.quick.proofs.Listed.{listed-at}
 use Rattle.quick.proofs.Alike.{same-key, like-key}
@@ -36,20 +36,34 @@ module _ (w : ℕ) (list : List Term) (count : ℕ) (bounds : AllBounds list cou
   keyed-like : (j : ℕ) → j ≤ k → getD likes j 0 ≡ getD likes k 0 → keyOf true (term j) ≡ keyOf true (term k)
   keyed-like j l e = sym (by-like j (lt-of-le-of-lt l inside)) ∙ e ∙ by-like k inside
 
-  pub row-for : (same like : ℕ) → (same ≤ k) × (getD sames same 0 ≡ getD sames k 0) → (like ≤ k) × (getD likes like 0 ≡ getD likes k 0) → {row : Row}
+  -- equal fields at two places
+  key-same : (j : ℕ) → j ≤ k → term j .c ≡ term k .c → term j .factor ≡ term k .factor → getD sames j 0 ≡ getD sames k 0
+  unfolding keyOf
+  key-same j l c f = by-same j (lt-of-le-of-lt l inside) ∙ ap₂ (λ (m n : ℕ). m * 1024 + n) c f ∙ sym (by-same k inside)
+
+  key-like : (j : ℕ) → j ≤ k → term j .c ≡ term k .c → term j .factor ≡ term k .factor → term j .d ≡ term k .d → getD likes j 0 ≡ getD likes k 0
+  unfolding keyOf
+  key-like j l c f d =
+      by-like j (lt-of-le-of-lt l inside)
+      ∙ ap₂ (λ (m n : ℕ). m * 32 + n) (ap₂ (λ (m n : ℕ). m * 1024 + n) c f) d
+      ∙ sym (by-like k inside)
+
+  pub row-for : (same like : ℕ) → FirstLike sames k same → FirstLike likes k like → {row : Row}
       → row ≡ record { term = term k; coefficient = coefficient w (term k); tau = getD taus (term k .t) nothing; same = same; like = like }
       → RowFor w term (λ t. getD taus t nothing) k row
   row-for same like s l e =
-      let p = same-key (term same) (term k) (bounds same (lt-of-le-of-lt (s .0) inside)) (bounds k inside) (keyed-same same (s .0) (s .1)) in
-      let q = like-key (term like) (term k) (bounds like (lt-of-le-of-lt (l .0) inside)) (bounds k inside) (keyed-like like (l .0) (l .1)) in
+      let p = same-key (term same) (term k) (bounds same (lt-of-le-of-lt (s .before) inside)) (bounds k inside) (keyed-same same (s .before) (s .same)) in
+      let q = like-key (term like) (term k) (bounds like (lt-of-le-of-lt (l .before) inside)) (bounds k inside) (keyed-like like (l .before) (l .same)) in
       rw e
       (record {
         is-term = refl;
         is-coefficient = refl;
         is-tau = refl;
-        same = record { before = s .0; same-c = p .0; same-factor = p .1 };
-        like = record { before = l .0; same-c = q .0; same-factor = q .1 };
+        same = record { before = s .before; same-c = p .0; same-factor = p .1 };
+        same-first = λ j h c f. s .first j h (key-same j (omega (arith, s .before)) c f);
+        like = record { before = l .before; same-c = q .0; same-factor = q .1 };
         like-d = q .2;
+        like-first = λ j h c f d. l .first j h (key-like j (omega (arith, l .before)) c f d);
       })
 
 -- the same row by other names of the terms and of the powers
@@ -66,6 +80,13 @@ module _ (w : ℕ) (f g : ℕ → Term) (p q : ℕ → Bracket) (k : ℕ) (same 
         same-factor = ap (λ (t : Term). t .factor) (sym there) ∙ s .same-factor ∙ ap (λ (t : Term). t .factor) here;
       }
 
+  -- a field that two of the terms share, by their other names
+  at : (field : Term → ℕ) (j : ℕ) → j ≤ k → field (g j) ≡ field (g k) → field (f j) ≡ field (f k)
+  at field j l e = ap field (same j l) ∙ e ∙ ap field (sym here)
+
+  below : {j place : ℕ} → j < place → SameBefore f k place → j ≤ k
+  below h s = let b = s .before in omega arith
+
   pub row-renamed : (row : Row) → RowFor w f p k row → RowFor w g q k row
   row-renamed row r =
       record {
@@ -73,8 +94,10 @@ module _ (w : ℕ) (f g : ℕ → Term) (p q : ℕ → Bracket) (k : ℕ) (same 
         is-coefficient = r .is-coefficient ∙ ap (coefficient w) here;
         is-tau = r .is-tau ∙ ap (λ (t : Term). p (t .t)) here ∙ powers;
         same = before-renamed (row .same) (r .same);
+        same-first = λ j h c f. r .same-first j h (at (λ (t : Term). t .c) j (below h (r .same)) c) (at (λ (t : Term). t .factor) j (below h (r .same)) f);
         like = before-renamed (row .like) (r .like);
         like-d = ap (λ (t : Term). t .d) (sym (same (row .like) (r .like .before))) ∙ r .like-d ∙ ap (λ (t : Term). t .d) here;
+        like-first = λ j h c f d. r .like-first j h (at (λ (t : Term). t .c) j (below h (r .like)) c) (at (λ (t : Term). t .factor) j (below h (r .like)) f) (at (λ (t : Term). t .d) j (below h (r .like)) d);
       }
 
 -- what is made ready of a list that holds a table's terms

@@ -15,13 +15,13 @@ use Rattle.quick.specs.Kept.{weighedBy, keptOf, valueBy, addendsBy, Adda
 
 -- a term's addends are those by what is kept for it
 pub addends-by : (w : ℕ) (term : Term) (a b : Bracket)
-    → addendsBy w (coefficient w term) (power w a (term .d)) (power w b (term .t)) (keptOf w term (power w a (term .c))) ≡ addends w term a b
+    → addendsBy w (coefficient w term) (power w a (term .d)) (power w b (term .t)) (keptOf w term (power w a (term .c)) .e) (keptOf w term (power w a (term .c)) .w) (keptOf w term (power w a (term .c)) .s2) ≡ addends w term a b
 unfolding addendsBy valueBy keptOf weighedBy addends addendsOf termV
 addends-by w term a b = refl
 
 -- and they are held, with all that they are made of
 module _ {v : ℕ} (term : Term) (a b : Bracket) (s : Bounds term) (p : DeltaIn v a) (q : TauIn v b) where
-  pub term-addable : Addable v (coefficient (suc v) term) (power (suc v) a (term .d)) (power (suc v) b (term .t)) (keptOf (suc v) term (power (suc v) a (term .c)))
+  pub term-addable : Addable v (coefficient (suc v) term) (power (suc v) a (term .d)) (power (suc v) b (term .t)) (keptOf (suc v) term (power (suc v) a (term .c)) .e) (keptOf (suc v) term (power (suc v) a (term .c)) .w) (keptOf (suc v) term (power (suc v) a (term .c)) .s2)
   unfolding keptOf weighedBy
   term-addable =
       let g = term-g-in a p term s in
@@ -36,9 +36,9 @@ module _ {v : ℕ} (term : Term) (a b : Bracket) (s : Bounds term) (p : DeltaIn 
           e-held = e-in _ g (term .c) .held;
         };
         w-held = tw .held;
-        s2-held = factorS2-held _ tw _ g (term .c) (s .c-most);
+        factor-held = factorS2-held _ tw _ g (term .c) (s .c-most);
         addends-held = held;
       }
     where
-      held : AllHeld v (addendsBy (suc v) (coefficient (suc v) term) (power (suc v) a (term .d)) (power (suc v) b (term .t)) (keptOf (suc v) term (power (suc v) a (term .c))))
+      held : AllHeld v (addendsBy (suc v) (coefficient (suc v) term) (power (suc v) a (term .d)) (power (suc v) b (term .t)) (keptOf (suc v) term (power (suc v) a (term .c)) .e) (keptOf (suc v) term (power (suc v) a (term .c)) .w) (keptOf (suc v) term (power (suc v) a (term .c)) .s2))
       held = rw (addends-by (suc v) term a b) (addends-held term a b s p q)

@@ -1,5 +1,5 @@
 -- The keys by which terms share what is taken once. Assumes nothing.
-use Prim.Native.Nat.{ℕ, _+_, _*_}
+use Prim.Native.Nat.{ℕ, _+_, _*_, _≤_, _<_}
 use mathlib.Core.Path.{_≡_}
 use mathlib.Core.Bool.{Bool, cond}
 use mathlib.Core.List.{List}
@@ -15,3 +15,9 @@ keyOf weighed term = cond weighed ((term .c * 1024 + term .factor) * 32 + term .
 -- the keys of a list's first terms
 abbrev pub KeysTo : Bool → List Term → ℕ → List ℕ → Type 0
 KeysTo weighed list count keys = Filled 0 (λ k key. key ≡ keyOf weighed (getD list k blank)) keys count
+
+-- r is the first place with the key of place k
+pub record FirstLike (keys : List ℕ) (k r : ℕ) : Type 0 where
+  pub before : r ≤ k
+  pub same : getD keys r 0 ≡ getD keys k 0
+  pub first : (j : ℕ) → j < r → getD keys j 0 ≡ getD keys k 0 → ⊥

@@ -52,8 +52,10 @@ pub record RowFor (w : ℕ) (terms : ℕ → Term) (taus : ℕ → Bracket) (k :
   pub is-coefficient : row .coefficient ≡ coefficient w (terms k)
   pub is-tau : row .tau ≡ taus (terms k .t)
   pub same : SameBefore terms k (row .same)
+  pub same-first : (j : ℕ) → j < row .same → terms j .c ≡ terms k .c → terms j .factor ≡ terms k .factor → ⊥
   pub like : SameBefore terms k (row .like)
   pub like-d : terms (row .like) .d ≡ terms k .d
+  pub like-first : (j : ℕ) → j < row .like → terms j .c ≡ terms k .c → terms j .factor ≡ terms k .factor → terms j .d ≡ terms k .d → ⊥
 
 -- a row where a list has none
 abbrev pub noRow : Row

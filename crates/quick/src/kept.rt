@@ -1,40 +1,20 @@
 // What terms of one c, factor and d share at a density, taken once: g, the exponential, w and the factor of S2.
 use crate::ready::Row;
 use bracket::Bracket;
-use sheet::Sheet;
 use term::Term;
 ghost use mathlib.Core.Path.{_≡_};
 ghost use Prim.Native.Nat.{suc, _<_, _≤_};
-ghost use lib.ListN.{replicate};
 ghost use Rattle.term.specs.Bounds.{Bounds};
 ghost use Rattle.bracket.specs.Held.{Held};
 ghost use Rattle.equation.specs.Rules.{scaled};
 ghost use Rattle.equation.specs.Ranged.{GIn};
-ghost use Rattle.quick.specs.Kept.{weighedBy, keptOf, noKept, Keepable};
+ghost use Rattle.quick.specs.Kept.{weighedBy, keptOf, Keepable};
 
 pub struct Kept {
     pub g: Bracket,
     pub e: Bracket,
     pub w: Bracket,
     pub s2: Bracket,
-}
-
-pub fn no_kept() -> [Kept; 64]
-    ensures { λ r. ⌜ r ≡ replicate 64 noKept ⌝ }
-{
-    let zero = Sheet {
-        neg: false,
-        m: 0,
-        e: 0,
-    };
-    let nothing = Bracket { lo: zero, hi: zero };
-    let kept = Kept {
-        g: nothing,
-        e: nothing,
-        w: nothing,
-        s2: nothing,
-    };
-    [kept; 64]
 }
 
 // By g and E, which c and factor settle.
@@ -57,17 +37,14 @@ fn fresh(v: u64, term: Term, power: Bracket) -> Kept
     weighed(v, c, term.d, g, equation::factor_e(v, c, g))
 }
 
-// Of a row at place i: what the places `like` and `same` kept, where these lie before it.
-pub fn kept_for(v: u64, i: usize, row: Row, like: Kept, same: Kept, power: Bracket) -> Kept
-    requires { ⌜ Keepable v i row like same power ⌝ }
+// Of a row at place i, with g and E of the first place with its c and factor, where that lies before it.
+pub fn kept_for(v: u64, i: usize, row: Row, g: Bracket, e: Bracket, power: Bracket) -> Kept
+    requires { ⌜ Keepable v i row g e power ⌝ }
     ensures { λ r. ⌜ r ≡ keptOf (suc v) (row .term) power ⌝ }
 {
     let term = row.term;
-    if row.like < i {
-        return like;
-    }
     if row.same < i {
-        return weighed(v, term.c, term.d, same.g, same.e);
+        return weighed(v, term.c, term.d, g, e);
     }
     fresh(v, term, power)
 }

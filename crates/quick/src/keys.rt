@@ -1,9 +1,9 @@
 // Which terms share what: a key for each term, and the first place at which a key stands.
 ghost use mathlib.Core.Path.{_≡_};
 ghost use Prim.Native.Nat.{_≤_, _<_};
-ghost use lib.ListN.{length, getD};
+ghost use lib.ListN.{length};
 ghost use Rattle.term.specs.Bounds.{Bounds};
-ghost use Rattle.quick.specs.Keys.{keyOf, KeysTo};
+ghost use Rattle.quick.specs.Keys.{keyOf, KeysTo, FirstLike};
 ghost use Rattle.quick.specs.Unpacked.{AllBounds};
 use term::Term;
 
@@ -34,7 +34,7 @@ pub fn keys(list: [Term; 64], count: usize, weighed: bool) -> [u64; 64]
 // The first place that has the key of place k.
 pub fn first_like(keys: &[u64], k: usize) -> usize
     requires { ⌜ k < length (now keys) ⌝ }
-    ensures { λ r. ⌜ (r ≤ k) × (getD (now (keys .entry)) r 0 ≡ getD (now (keys .entry)) k 0) ⌝ }
+    ensures { λ r. ⌜ FirstLike (now (keys .entry)) k r ⌝ }
 {
     let key = keys[k];
     let mut i: usize = 0;

@@ -1,12 +1,11 @@
 // The three sums at one density: one pass over the rows, from zero, left to right.
-use crate::kept::Kept;
 use crate::kept::kept_for;
-use crate::kept::no_kept;
 use crate::powers::powers;
 use crate::ready::Ready;
 use crate::ready::Row;
 use bracket::Bracket;
 use equation::Sums;
+use sheet::Sheet;
 ghost use mathlib.Core.Path.{_≡_};
 ghost use mathlib.Core.Bool.{true};
 ghost use Prim.Native.Nat.{suc};
@@ -31,30 +30,47 @@ fn value(v: u64, coefficient: Bracket, delta: Bracket, tau: Bracket, e: Bracket)
     bracket::product(v, by_tau, e)
 }
 
-fn addends(v: u64, coefficient: Bracket, delta: Bracket, tau: Bracket, kept: Kept) -> Sums
-    requires { ⌜ Addable v coefficient delta tau kept ⌝ }
-    ensures { λ r. ⌜ r ≡ addendsBy (suc v) coefficient delta tau kept ⌝ }
+fn addends(
+    v: u64,
+    coefficient: Bracket,
+    delta: Bracket,
+    tau: Bracket,
+    e: Bracket,
+    w: Bracket,
+    factor: Bracket,
+) -> Sums
+    requires { ⌜ Addable v coefficient delta tau e w factor ⌝ }
+    ensures { λ r. ⌜ r ≡ addendsBy (suc v) coefficient delta tau e w factor ⌝ }
 {
-    let s0 = value(v, coefficient, delta, tau, kept.e);
-    let s1 = bracket::product(v, s0, kept.w);
-    let s2 = bracket::product(v, s0, kept.s2);
+    let s0 = value(v, coefficient, delta, tau, e);
+    let s1 = bracket::product(v, s0, w);
+    let s2 = bracket::product(v, s0, factor);
     Sums { s0, s1, s2 }
 }
 
 // The sums with a row's addends, by its power of delta. They are added here and not by a call: so the sums of the pass stay scalars.
-fn add_row(v: u64, row: Row, delta: Bracket, kept: Kept, s: Sums) -> Sums
-    requires { ⌜ Addable v (row .coefficient) delta (row .tau) kept × AllHeld v s ⌝ }
-    ensures { λ r. ⌜ r ≡ plusEach (suc v) s (addendsBy (suc v) (row .coefficient) delta (row .tau) kept) ⌝ }
+fn add_row(
+    v: u64,
+    row: Row,
+    delta: Bracket,
+    e: Bracket,
+    w: Bracket,
+    factor: Bracket,
+    s: Sums,
+) -> Sums
+    requires { ⌜ Addable v (row .coefficient) delta (row .tau) e w factor × AllHeld v s ⌝ }
+    ensures { λ r. ⌜ r ≡ plusEach (suc v) s (addendsBy (suc v) (row .coefficient) delta (row .tau) e w factor) ⌝ }
 {
     let coefficient = row.coefficient;
     let tau = row.tau;
-    let a = addends(v, coefficient, delta, tau, kept);
+    let a = addends(v, coefficient, delta, tau, e, w, factor);
     let s0 = bracket::sum(v, s.s0, a.s0);
     let s1 = bracket::sum(v, s.s1, a.s1);
     let s2 = bracket::sum(v, s.s2, a.s2);
     Sums { s0, s1, s2 }
 }
 
+// What the terms share is kept at the first place that has it, each kind in an array of its own: so a product reads it where it lies.
 pub fn sums_of(v: u64, kind: u64, table: &[u8], ready: Ready, rho: f64) -> Sums
     requires { ⌜ Width v × (soundTable kind (now table) ≡ true) × ReadyFor (suc v) kind (now table) ready ⌝ }
     requires { ⌜ T (acceptedTemperature widest (ready .t)) × T (acceptedDensity widest rho) ⌝ }
@@ -63,7 +79,16 @@ pub fn sums_of(v: u64, kind: u64, table: &[u8], ready: Ready, rho: f64) -> Sums
     let deltas = powers(v, equation::delta(v, rho), ready.far);
     let rows = ready.rows;
     let count = term::count_terms(kind, table);
-    let mut kept = no_kept();
+    let zero = Sheet {
+        neg: false,
+        m: 0,
+        e: 0,
+    };
+    let nothing = Bracket { lo: zero, hi: zero };
+    let mut gs = [nothing; 64];
+    let mut es = [nothing; 64];
+    let mut ws = [nothing; 64];
+    let mut factors = [nothing; 64];
     let mut s = equation::no_sums(v);
     let mut i: usize = 0;
     while i < count {
@@ -73,9 +98,18 @@ pub fn sums_of(v: u64, kind: u64, table: &[u8], ready: Ready, rho: f64) -> Sums
         let same = row.same;
         let c = term.c as usize;
         let d = term.d as usize;
-        let own = kept_for(v, i, row, kept[like], kept[same], deltas[c]);
-        kept[i] = own;
-        s = add_row(v, row, deltas[d], own, s);
+        if like == i {
+            let own = kept_for(v, i, row, gs[same], es[same], deltas[c]);
+            let g = own.g;
+            let e = own.e;
+            let w = own.w;
+            let factor = own.s2;
+            gs[i] = g;
+            es[i] = e;
+            ws[i] = w;
+            factors[i] = factor;
+        }
+        s = add_row(v, row, deltas[d], es[like], ws[like], factors[like], s);
         i += 1;
     }
     s

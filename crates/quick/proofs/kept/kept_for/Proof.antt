@@ -7,28 +7,25 @@ use borrow.Author.Needs.{needs}
 use Rattle.quick.proofs.kept.kept_for.Statement.{statement}
 use Rattle.quick.proofs.kept.kept_for.Tie as tie
 
-returns : tie.Need-returns
-returns c = c .before .before .before .pre .like-kept (c .if1 .taken)
-
 weighed-requires : tie.Need-weighed-requires
 weighed-requires c κs =
-    let p = c .before .before .before .before .before .pre in
+    let p = c .before .before .before .pre in
     let s = p .bounds in
-    ((s .d-above, s .d-most), (s .c-most, subst (GIn _) (sym (p .same-g (c .if2 .taken))) (p .g-in)))
+    ((s .d-above, s .d-most), (s .c-most, subst (GIn _) (sym (p .same-g (c .if1 .taken))) (p .g-in)))
 
-returns-2 : tie.Need-returns-2
+returns : tie.Need-returns
 unfolding keptOf
-returns-2 c =
-    let start = c .before .before .before .before .before .before in
+returns c =
+    let start = c .before .before .before .before in
     let a = start .args in
-    let l = c .before .if2 .taken in
+    let l = c .before .if1 .taken in
     c .weighed .ensures ∙ ap₂ (weighedBy (suc (a .v)) (a .row .term .c) (a .row .term .d)) (start .pre .same-g l) (start .pre .same-e l)
 
 fresh-requires : tie.Need-fresh-requires
-fresh-requires c κs = let p = c .before .before .before .before .before .pre in (p .bounds, (p .power-held, p .g-in))
+fresh-requires c κs = let p = c .before .before .before .pre in (p .bounds, (p .power-held, p .g-in))
 
-returns-3 : tie.Need-returns-3
-returns-3 c = c .fresh .ensures
+returns-2 : tie.Need-returns-2
+returns-2 c = c .fresh .ensures
 
 pub kept-for-spec : {M : Type 1} → statement M
-kept-for-spec = tie.close (tie.spec returns weighed-requires returns-2 fresh-requires returns-3)
+kept-for-spec = tie.close (tie.spec weighed-requires returns fresh-requires returns-2)

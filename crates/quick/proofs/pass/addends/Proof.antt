@@ -15,7 +15,7 @@ product-requires c κs = let p = c .before .pre in (held-is (c .value .ensures) 
 
 product-requires-2 : tie.Need-product-requires-2
 unfolding addendsBy
-product-requires-2 c κs = let p = c .before .before .pre in (held-is (c .before .value .ensures) (p .addends-held .s0), p .s2-held)
+product-requires-2 c κs = let p = c .before .before .pre in (held-is (c .before .value .ensures) (p .addends-held .s0), p .factor-held)
 
 returns : tie.Need-returns
 unfolding addendsBy

@@ -1,5 +1,7 @@
 -- `quick::pass::sums_of` meets its contract. Assumes nothing.
-use mathlib.Core.Path.{_≡_, sym, ap, ap₂, subst, _∙_}
+use mathlib.Core.Path.{_≡_, refl, sym, ap, ap₂, subst, _∙_}
+use mathlib.Core.Logic.{⊎-elim}
+use mathlib.Core.List.{List}
 use Prim.Native.Nat.{ℕ, suc, _+_, _-_, _≤_, _<_}
 use native.Mathlib.Nat.{le-refl}
 use native.Mathlib.Omega.{arith}
@@ -19,20 +21,23 @@ use Rattle.equation.proofs.HoldsSums.{first-held}
 use Rattle.equation.proofs.Taken.{temperature-of, density-of}
 use Rattle.doubles.specs.Double.{exactOf}
 use Rattle.quick.specs.declared.kept.Kept.{Kept}
-use Rattle.quick.specs.Filled.{Filled}
+use Rattle.quick.specs.declared.ready.Row.{Row}
 use Rattle.quick.specs.Powers.{nothing}
 use Rattle.quick.specs.Ready.{noRow, RowFor}
-use Rattle.quick.specs.Kept.{noKept, addendsBy, Addable}
-use Rattle.quick.proofs.Filled.{filled-more}
-use Rattle.quick.proofs.Passed.{keptRow, addRow, sumsRows, rows-none, rows-more, rows-sums, row-keepable, row-addable}
+use Rattle.quick.specs.Kept.{addendsBy, Keepable, Addable}
+use Rattle.quick.proofs.Passed.{keptAt, keptRow, KeptTo, sumsRows, rows-none, rows-more, rows-sums, row-keepable, row-addable, kept-found, kept-new}
 use Rattle.quick.proofs.pass.sums_of.Statement.{statement}
 use Rattle.quick.proofs.pass.sums_of.Tie as tie
 
+-- four lists of 64 places
+abbrev Full : (gs es ws factors : List Bracket) → Type 0
+Full gs es ws factors = (length gs ≡ 64) × (length es ≡ 64) × (length ws ≡ 64) × (length factors ≡ 64)
+
 abbrev Inv-loop : tie.InvT-loop
-Inv-loop v kind table rho deltas rows count kept₀ s₀ i₀ kept s i = (i ≤ count) × (length kept ≡ 64) × Filled noKept (λ k x. x ≡ keptRow (suc v) rows deltas k) kept i × (s ≡ sumsRows (suc v) rows deltas i)
+Inv-loop v kind table rho deltas rows count gs₀ es₀ ws₀ factors₀ s₀ i₀ gs es ws factors s i = (i ≤ count) × Full gs es ws factors × KeptTo (suc v) rows deltas gs es ws factors i × (s ≡ sumsRows (suc v) rows deltas i)
 
 abbrev μ-loop : tie.MeasureT-loop
-μ-loop v kind table rho deltas rows count kept₀ s₀ i₀ kept s i = count - i
+μ-loop v kind table rho deltas rows count gs₀ es₀ ws₀ factors₀ s₀ i₀ gs es ws factors s i = count - i
 
 delta-requires : tie.Need-delta-requires Inv-loop μ-loop
 delta-requires c κs = let p = c .before .pre in (p .0 .0, p .1 .1)
@@ -47,15 +52,11 @@ powers-requires c κs =
 count-terms-requires : tie.Need-count-terms-requires Inv-loop μ-loop
 count-terms-requires c κs = tt
 
-no-kept-requires : tie.Need-no-kept-requires Inv-loop μ-loop
-no-kept-requires c κs = tt
-
 no-sums-requires : tie.Need-no-sums-requires Inv-loop μ-loop
-no-sums-requires c κs = c .before .before .before .before .before .before .pre .0 .0
+no-sums-requires c κs = c .before .before .before .before .before .pre .0 .0
 
 loop-holds : tie.Need-loop-holds Inv-loop μ-loop
-loop-holds c =
-    (omega arith, ap length (c .before .no-kept .ensures), λ k l. absurd (omega arith), c .no-sums .ensures ∙ rows-none _ _ _)
+loop-holds c = (omega arith, (refl, refl, refl, refl), λ k l. absurd (omega arith), c .no-sums .ensures ∙ rows-none _ _ _)
 
 -- ---- what the calls before the loop leave
 
@@ -75,149 +76,222 @@ module _ (c : tie.After-powers Inv-loop μ-loop) where
   tau-is : TauIn (c .before .before .before .args .v) (tau (suc (c .before .before .before .args .v)) (exactOf (c .before .before .before .args .ready .t)))
   tau-is = tau-in (c .before .before .before .pre .0 .0) (temperature-of (c .before .before .before .args .ready .t) (c .before .before .before .pre .1 .0))
 
--- in the loop the place is one of the table's
-inside : (c : tie.In-loop Inv-loop μ-loop) → c .before .loop .i < countTerms (c .before .before .before .before .before .before .before .before .before .args .kind) (c .before .before .before .before .before .before .before .before .before .args .table .now)
-inside c = omega (arith, c .loop-test .taken, c .before .before .before .before .count-terms .ensures)
+-- ---- in the loop
 
-bounds : (c : tie.In-loop Inv-loop μ-loop) → Bounds (termAt (c .before .before .before .before .before .before .before .before .before .args .kind) (c .before .before .before .before .before .before .before .before .before .args .table .now) (c .before .loop .i))
-bounds c = sound-bounds (c .before .before .before .before .before .before .before .before .before .args .kind) (c .before .before .before .before .before .before .before .before .before .args .table .now) (c .before .before .before .before .before .before .before .before .before .pre .0 .1) (c .before .loop .i) (inside c)
+abbrev rows : tie.In-loop Inv-loop μ-loop → List Row
+rows c = c .before .before .before .before .before .before .before .before .args .ready .rows
 
-row-of : (c : tie.In-loop Inv-loop μ-loop) → RowFor (suc (c .before .before .before .before .before .before .before .before .before .args .v)) (termAt (c .before .before .before .before .before .before .before .before .before .args .kind) (c .before .before .before .before .before .before .before .before .before .args .table .now)) (power (suc (c .before .before .before .before .before .before .before .before .before .args .v)) (tau (suc (c .before .before .before .before .before .before .before .before .before .args .v)) (exactOf (c .before .before .before .before .before .before .before .before .before .args .ready .t)))) (c .before .loop .i) (getD (c .before .before .before .before .before .before .before .before .before .args .ready .rows) (c .before .loop .i) noRow)
-row-of c = c .before .before .before .before .before .before .before .before .before .pre .0 .2 .rows (c .before .loop .i) (inside c)
+abbrev bits : tie.In-loop Inv-loop μ-loop → ℕ
+bits c = suc (c .before .before .before .before .before .before .before .before .args .v)
+
+abbrev terms : tie.In-loop Inv-loop μ-loop → ℕ → Term
+terms c = termAt (c .before .before .before .before .before .before .before .before .args .kind) (c .before .before .before .before .before .before .before .before .args .table .now)
+
+abbrev size : tie.In-loop Inv-loop μ-loop → ℕ
+size c = countTerms (c .before .before .before .before .before .before .before .before .args .kind) (c .before .before .before .before .before .before .before .before .args .table .now)
+
+abbrev reduced : tie.In-loop Inv-loop μ-loop → Bracket
+reduced c = tau (bits c) (exactOf (c .before .before .before .before .before .before .before .before .args .ready .t))
+
+abbrev deltas : tie.In-loop Inv-loop μ-loop → List Bracket
+deltas c = c .before .before .before .before .before .powers .result
+
+abbrev place : tie.In-loop Inv-loop μ-loop → ℕ
+place c = c .before .loop .i
+
+abbrev row : tie.In-loop Inv-loop μ-loop → Row
+row c = getD (rows c) (place c) noRow
+
+inside : (c : tie.In-loop Inv-loop μ-loop) → place c < size c
+inside c = omega (arith, c .loop-test .taken, c .before .before .before .count-terms .ensures)
+
+few : (c : tie.In-loop Inv-loop μ-loop) → place c < 64
+few c = let m = sound-few _ _ (c .before .before .before .before .before .before .before .before .pre .0 .1) in let l = inside c in omega arith
+
+bounds : (c : tie.In-loop Inv-loop μ-loop) → Bounds (terms c (place c))
+bounds c = sound-bounds (c .before .before .before .before .before .before .before .before .args .kind) (c .before .before .before .before .before .before .before .before .args .table .now) (c .before .before .before .before .before .before .before .before .pre .0 .1) (place c) (inside c)
+
+row-of : (c : tie.In-loop Inv-loop μ-loop) → RowFor (bits c) (terms c) (power (bits c) (reduced c)) (place c) (row c)
+row-of c = c .before .before .before .before .before .before .before .before .pre .0 .2 .rows (place c) (inside c)
+
+-- the fields of its term are small
+c-few : (c : tie.In-loop Inv-loop μ-loop) → row c .term .c < 64
+c-few c = let b = bounds c .c-most in subst (λ (t : Term). t .c < 64) (sym (row-of c .is-term)) (omega arith)
+
+d-few : (c : tie.In-loop Inv-loop μ-loop) → row c .term .d < 64
+d-few c = let b = bounds c .d-most in subst (λ (t : Term). t .d < 64) (sym (row-of c .is-term)) (omega arith)
+
+like-few : (c : tie.In-loop Inv-loop μ-loop) → row c .like < 64
+like-few c = let b = row-of c .like .before in let l = few c in omega arith
+
+same-few : (c : tie.In-loop Inv-loop μ-loop) → row c .same < 64
+same-few c = let b = row-of c .same .before in let l = few c in omega arith
+
+-- what the laws of the pass take: the terms, the reduced density and temperature, the rows and the powers
+abbrev δ : tie.In-loop Inv-loop μ-loop → Bracket
+δ c = c .before .before .before .before .before .before .delta .result
+
+keepable : (c : tie.In-loop Inv-loop μ-loop) → Keepable (c .before .before .before .before .before .before .before .before .args .v) (place c) (row c) (getD (c .before .loop .gs) (row c .same) nothing) (getD (c .before .loop .es) (row c .same) nothing) (getD (deltas c) (row c .term .c) nothing)
+keepable c =
+    let l = c .before .loop in
+    row-keepable (terms c) (δ c) (reduced c) (rows c) (deltas c) (size c) (c .before .before .before .before .before .before .before .before .pre .0 .2 .rows) (by-c (c .before .before .before .before .before)) (by-d (c .before .before .before .before .before)) (l .gs) (l .es) (l .ws) (l .factors) (place c) (inside c) (l .inv .2) (bounds c) (delta-is (c .before .before .before .before .before))
+
+-- where the arms meet: what the rows so far share is kept, this row's too
+joined : (c : tie.Joined1 Inv-loop μ-loop)
+    → Full (c .if1 .gs) (c .if1 .es) (c .if1 .ws) (c .if1 .factors) × KeptTo (bits (c .before .before .before)) (rows (c .before .before .before)) (deltas (c .before .before .before)) (c .if1 .gs) (c .if1 .es) (c .if1 .ws) (c .if1 .factors) (place (c .before .before .before) + 1)
+joined c =
+    let h = c .before .before .before in
+    let l = h .before .loop in
+    let i = place h in
+    let n = few h in
+    let f = l .inv .1 in
+    ⊎-elim
+    (λ w.
+    let own = w .4 .result in
+    rw (w .9, w .10, w .11, w .12) (
+      (length-set (l .gs) i (own .g) ∙ f .0, length-set (l .es) i (own .e) ∙ f .1, length-set (l .ws) i (own .w) ∙ f .2, length-set (l .factors) i (own .s2) ∙ f .3),
+      kept-new (terms h) (δ h) (reduced h) (rows h) (deltas h) (size h) (h .before .before .before .before .before .before .before .before .pre .0 .2 .rows) (by-c (h .before .before .before .before .before)) (by-d (h .before .before .before .before .before)) (l .gs) (l .es) (l .ws) (l .factors) i (inside h) (l .inv .2) own (w .4 .ensures) (w .0 .taken)
+          (omega (arith, n, f .0), omega (arith, n, f .1), omega (arith, n, f .2), omega (arith, n, f .3)),
+    ))
+    (λ w.
+    rw (w .1, w .2, w .3, w .4) (
+      f,
+      kept-found (terms h) (δ h) (reduced h) (rows h) (deltas h) (size h) (h .before .before .before .before .before .before .before .before .pre .0 .2 .rows) (by-c (h .before .before .before .before .before)) (by-d (h .before .before .before .before .before)) (l .gs) (l .es) (l .ws) (l .factors) i (inside h) (l .inv .2) (w .0 .left),
+    ))
+    (c .if1 .came)
+
+-- so this row finds its own
+found : (c : tie.Joined1 Inv-loop μ-loop) → keptAt (c .if1 .gs) (c .if1 .es) (c .if1 .ws) (c .if1 .factors) (row (c .before .before .before) .like) ≡ keptRow (bits (c .before .before .before)) (rows (c .before .before .before)) (deltas (c .before .before .before)) (place (c .before .before .before))
+found c = joined c .1 (place (c .before .before .before)) (omega arith)
+
+-- ---- what the loop's calls and places ask
 
 mul-row : tie.Need-mul-row Inv-loop μ-loop
-mul-row c =
-    let m = sound-few _ _ (c .before .before .before .before .before .before .before .before .before .pre .0 .1) in
-    let l = inside (c) in
-    record { fits = omega arith }
+mul-row c = let n = few c in record { fits = omega arith }
 
 array-copy-out-row : tie.Need-array-copy-out-row Inv-loop μ-loop
-array-copy-out-row c =
-    let m = sound-few _ _ (c .before .before .before .before .before .before .before .before .before .pre .0 .1) in
-    let l = inside (c) in
-    omega arith
+array-copy-out-row c = few c
 
 mul-kept-for : tie.Need-mul-kept-for Inv-loop μ-loop
-mul-kept-for c =
-    let m = sound-few _ _ (c .before .before .before .before .before .before .before .before .before .before .before .pre .0 .1) in
-    let l = inside (c .before .before) in
-    let b = row-of (c .before .before) .like .before in
-    record { fits = omega arith }
+mul-kept-for c = let n = same-few (c .before .before .before) in record { fits = omega arith }
 
 array-copy-out-kept-for : tie.Need-array-copy-out-kept-for Inv-loop μ-loop
-array-copy-out-kept-for c =
-    let m = sound-few _ _ (c .before .before .before .before .before .before .before .before .before .before .before .pre .0 .1) in
-    let l = inside (c .before .before) in
-    let b = row-of (c .before .before) .like .before in
-    omega arith
+array-copy-out-kept-for c = same-few (c .before .before .before)
 
 mul-kept-for-2 : tie.Need-mul-kept-for-2 Inv-loop μ-loop
-mul-kept-for-2 c =
-    let m = sound-few _ _ (c .before .before .before .before .before .before .before .before .before .before .before .before .pre .0 .1) in
-    let l = inside (c .before .before .before) in
-    let b = row-of (c .before .before .before) .same .before in
-    record { fits = omega arith }
+mul-kept-for-2 c = let n = same-few (c .before .before .before .before) in record { fits = omega arith }
 
 array-copy-out-kept-for-2 : tie.Need-array-copy-out-kept-for-2 Inv-loop μ-loop
-array-copy-out-kept-for-2 c =
-    let m = sound-few _ _ (c .before .before .before .before .before .before .before .before .before .before .before .before .pre .0 .1) in
-    let l = inside (c .before .before .before) in
-    let b = row-of (c .before .before .before) .same .before in
-    omega arith
+array-copy-out-kept-for-2 c = same-few (c .before .before .before .before)
 
 mul-kept-for-3 : tie.Need-mul-kept-for-3 Inv-loop μ-loop
-mul-kept-for-3 c =
-    let m = sound-few _ _ (c .before .before .before .before .before .before .before .before .before .before .before .before .before .pre .0 .1) in
-    let l = inside (c .before .before .before .before) in
-    let e = ap (λ (t : Term). t .c) (row-of (c .before .before .before .before) .is-term) in
-    let b = bounds (c .before .before .before .before) .c-most in
-    record { fits = omega arith }
+mul-kept-for-3 c = let n = c-few (c .before .before .before .before .before) in record { fits = omega arith }
 
 array-copy-out-kept-for-3 : tie.Need-array-copy-out-kept-for-3 Inv-loop μ-loop
-array-copy-out-kept-for-3 c =
-    let m = sound-few _ _ (c .before .before .before .before .before .before .before .before .before .before .before .before .before .pre .0 .1) in
-    let l = inside (c .before .before .before .before) in
-    let e = ap (λ (t : Term). t .c) (row-of (c .before .before .before .before) .is-term) in
-    let b = bounds (c .before .before .before .before) .c-most in
-    omega arith
+array-copy-out-kept-for-3 c = c-few (c .before .before .before .before .before)
 
 kept-for-requires : tie.Need-kept-for-requires Inv-loop μ-loop
-kept-for-requires c κs =
-    row-keepable (termAt (c .before .before .before .before .before .before .before .before .before .before .before .before .before .before .args .kind) (c .before .before .before .before .before .before .before .before .before .before .before .before .before .before .args .table .now)) (c .before .before .before .before .before .before .before .before .before .before .before .before .delta .result) (tau (suc (c .before .before .before .before .before .before .before .before .before .before .before .before .before .before .args .v)) (exactOf (c .before .before .before .before .before .before .before .before .before .before .before .before .before .before .args .ready .t))) (c .before .before .before .before .before .before .before .before .before .before .before .before .before .before .args .ready .rows) (c .before .before .before .before .before .before .before .before .before .before .before .powers .result) (countTerms (c .before .before .before .before .before .before .before .before .before .before .before .before .before .before .args .kind) (c .before .before .before .before .before .before .before .before .before .before .before .before .before .before .args .table .now)) (c .before .before .before .before .before .before .before .before .before .before .before .before .before .before .pre .0 .2 .rows) (by-c (c .before .before .before .before .before .before .before .before .before .before .before)) (by-d (c .before .before .before .before .before .before .before .before .before .before .before))
-    (c .before .before .before .before .before .before .loop .kept) (c .before .before .before .before .before .before .loop .i) (inside (c .before .before .before .before .before)) (c .before .before .before .before .before .before .loop .inv .2) (bounds (c .before .before .before .before .before)) (delta-is (c .before .before .before .before .before .before .before .before .before .before .before))
+kept-for-requires c κs = keepable (c .before .before .before .before .before .before)
 
-mul-kept : tie.Need-mul-kept Inv-loop μ-loop
-mul-kept c =
-    let m = sound-few _ _ (c .before .before .before .before .before .before .before .before .before .before .before .before .before .before .before .pre .0 .1) in
-    let l = inside (c .before .before .before .before .before .before) in
-    record { fits = omega arith }
+mul-gs : tie.Need-mul-gs Inv-loop μ-loop
+mul-gs c = let n = few (c .before .before .before .before .before .before .before .before .before .before .before) in record { fits = omega arith }
 
-array-set-from-kept : tie.Need-array-set-from-kept Inv-loop μ-loop
-array-set-from-kept c =
-    let m = sound-few _ _ (c .before .before .before .before .before .before .before .before .before .before .before .before .before .before .before .pre .0 .1) in
-    let l = inside (c .before .before .before .before .before .before) in
-    omega arith
+array-set-from-gs : tie.Need-array-set-from-gs Inv-loop μ-loop
+array-set-from-gs c = few (c .before .before .before .before .before .before .before .before .before .before .before)
+
+mul-es : tie.Need-mul-es Inv-loop μ-loop
+mul-es c = let n = few (c .before .before .before .before .before .before .before .before .before .before .before) in record { fits = omega arith }
+
+array-set-from-es : tie.Need-array-set-from-es Inv-loop μ-loop
+array-set-from-es c = few (c .before .before .before .before .before .before .before .before .before .before .before)
+
+mul-ws : tie.Need-mul-ws Inv-loop μ-loop
+mul-ws c = let n = few (c .before .before .before .before .before .before .before .before .before .before .before) in record { fits = omega arith }
+
+array-set-from-ws : tie.Need-array-set-from-ws Inv-loop μ-loop
+array-set-from-ws c = few (c .before .before .before .before .before .before .before .before .before .before .before)
+
+mul-factors : tie.Need-mul-factors Inv-loop μ-loop
+mul-factors c = let n = few (c .before .before .before .before .before .before .before .before .before .before .before) in record { fits = omega arith }
+
+array-set-from-factors : tie.Need-array-set-from-factors Inv-loop μ-loop
+array-set-from-factors c = few (c .before .before .before .before .before .before .before .before .before .before .before)
 
 mul-add-row : tie.Need-mul-add-row Inv-loop μ-loop
-mul-add-row c =
-    let m = sound-few _ _ (c .before .before .before .before .before .before .before .before .before .before .before .before .before .before .before .pre .0 .1) in
-    let l = inside (c .before .before .before .before .before .before) in
-    let e = ap (λ (t : Term). t .d) (row-of (c .before .before .before .before .before .before) .is-term) in
-    let b = bounds (c .before .before .before .before .before .before) .d-most in
-    record { fits = omega arith }
+mul-add-row c = let n = d-few (c .before .before .before) in record { fits = omega arith }
 
 array-copy-out-add-row : tie.Need-array-copy-out-add-row Inv-loop μ-loop
-array-copy-out-add-row c =
-    let m = sound-few _ _ (c .before .before .before .before .before .before .before .before .before .before .before .before .before .before .before .pre .0 .1) in
-    let l = inside (c .before .before .before .before .before .before) in
-    let e = ap (λ (t : Term). t .d) (row-of (c .before .before .before .before .before .before) .is-term) in
-    let b = bounds (c .before .before .before .before .before .before) .d-most in
-    omega arith
+array-copy-out-add-row c = d-few (c .before .before .before)
+
+mul-add-row-2 : tie.Need-mul-add-row-2 Inv-loop μ-loop
+mul-add-row-2 c = let n = like-few (c .before .before .before .before) in record { fits = omega arith }
+
+array-copy-out-add-row-2 : tie.Need-array-copy-out-add-row-2 Inv-loop μ-loop
+array-copy-out-add-row-2 c = like-few (c .before .before .before .before)
+
+mul-add-row-3 : tie.Need-mul-add-row-3 Inv-loop μ-loop
+mul-add-row-3 c = let n = like-few (c .before .before .before .before .before) in record { fits = omega arith }
+
+array-copy-out-add-row-3 : tie.Need-array-copy-out-add-row-3 Inv-loop μ-loop
+array-copy-out-add-row-3 c = like-few (c .before .before .before .before .before)
+
+mul-add-row-4 : tie.Need-mul-add-row-4 Inv-loop μ-loop
+mul-add-row-4 c = let n = like-few (c .before .before .before .before .before .before) in record { fits = omega arith }
+
+array-copy-out-add-row-4 : tie.Need-array-copy-out-add-row-4 Inv-loop μ-loop
+array-copy-out-add-row-4 c = like-few (c .before .before .before .before .before .before)
 
 add-row-requires : tie.Need-add-row-requires Inv-loop μ-loop
 add-row-requires c κs =
-    let own = row-addable (termAt (c .before .before .before .before .before .before .before .before .before .before .before .before .before .before .before .before .args .kind) (c .before .before .before .before .before .before .before .before .before .before .before .before .before .before .before .before .args .table .now)) (c .before .before .before .before .before .before .before .before .before .before .before .before .before .before .delta .result) (tau (suc (c .before .before .before .before .before .before .before .before .before .before .before .before .before .before .before .before .args .v)) (exactOf (c .before .before .before .before .before .before .before .before .before .before .before .before .before .before .before .before .args .ready .t))) (c .before .before .before .before .before .before .before .before .before .before .before .before .before .before .before .before .args .ready .rows) (c .before .before .before .before .before .before .before .before .before .before .before .before .before .powers .result) (countTerms (c .before .before .before .before .before .before .before .before .before .before .before .before .before .before .before .before .args .kind) (c .before .before .before .before .before .before .before .before .before .before .before .before .before .before .before .before .args .table .now)) (c .before .before .before .before .before .before .before .before .before .before .before .before .before .before .before .before .pre .0 .2 .rows) (by-c (c .before .before .before .before .before .before .before .before .before .before .before .before .before)) (by-d (c .before .before .before .before .before .before .before .before .before .before .before .before .before)) (c .before .before .before .before .before .before .before .before .loop .kept) (c .before .before .before .before .before .before .before .before .loop .i) (inside (c .before .before .before .before .before .before .before)) (c .before .before .before .before .before .before .before .before .loop .inv .2) (bounds (c .before .before .before .before .before .before .before)) (delta-is (c .before .before .before .before .before .before .before .before .before .before .before .before .before)) (tau-is (c .before .before .before .before .before .before .before .before .before .before .before .before .before)) in
-    let sums = rows-sums (termAt (c .before .before .before .before .before .before .before .before .before .before .before .before .before .before .before .before .args .kind) (c .before .before .before .before .before .before .before .before .before .before .before .before .before .before .before .before .args .table .now)) (c .before .before .before .before .before .before .before .before .before .before .before .before .before .before .delta .result) (tau (suc (c .before .before .before .before .before .before .before .before .before .before .before .before .before .before .before .before .args .v)) (exactOf (c .before .before .before .before .before .before .before .before .before .before .before .before .before .before .before .before .args .ready .t))) (c .before .before .before .before .before .before .before .before .before .before .before .before .before .before .before .before .args .ready .rows) (c .before .before .before .before .before .before .before .before .before .before .before .before .before .powers .result) (countTerms (c .before .before .before .before .before .before .before .before .before .before .before .before .before .before .before .before .args .kind) (c .before .before .before .before .before .before .before .before .before .before .before .before .before .before .before .before .args .table .now)) (c .before .before .before .before .before .before .before .before .before .before .before .before .before .before .before .before .pre .0 .2 .rows) (by-c (c .before .before .before .before .before .before .before .before .before .before .before .before .before)) (by-d (c .before .before .before .before .before .before .before .before .before .before .before .before .before)) (c .before .before .before .before .before .before .before .before .loop .i) (omega (arith, inside (c .before .before .before .before .before .before .before))) in (
-      subst (Addable (c .before .before .before .before .before .before .before .before .before .before .before .before .before .before .before .before .args .v) _ _ _) (sym (c .before .kept-for .ensures)) own,
-      subst (AllHeld (c .before .before .before .before .before .before .before .before .before .before .before .before .before .before .before .before .args .v)) (sym (c .before .before .before .before .before .before .before .before .loop .inv .3 ∙ sums)) (first-held (c .before .before .before .before .before .before .before .before .before .before .before .before .before .before .before .before .args .kind) (c .before .before .before .before .before .before .before .before .before .before .before .before .before .before .before .before .args .table .now) (c .before .before .before .before .before .before .before .before .before .before .before .before .before .before .before .before .pre .0 .1) _ _ (delta-is (c .before .before .before .before .before .before .before .before .before .before .before .before .before)) (tau-is (c .before .before .before .before .before .before .before .before .before .before .before .before .before)) (c .before .before .before .before .before .before .before .before .loop .i) (omega (arith, inside (c .before .before .before .before .before .before .before)))),
+    let h = c .before .before .before .before .before .before .before in
+    let start = h .before .before .before .before .before .before .before .before in
+    let v = start .args .v in
+    let l = h .before .loop in
+    let p = h .before .before .before .before .before in
+    let own = row-addable (terms h) (δ h) (reduced h) (rows h) (deltas h) (size h) (start .pre .0 .2 .rows) (by-c p) (by-d p) (place h) (inside h) (bounds h) (delta-is p) (tau-is p) in
+    let sums = rows-sums (terms h) (δ h) (reduced h) (rows h) (deltas h) (size h) (start .pre .0 .2 .rows) (by-c p) (by-d p) (place h) (omega (arith, inside h)) in (
+      subst (λ (k : Kept). Addable v (row h .coefficient) (getD (deltas h) (row h .term .d) nothing) (row h .tau) (k .e) (k .w) (k .s2)) (sym (found (c .before .before .before .before))) own,
+      subst (AllHeld v) (sym (l .inv .3 ∙ sums)) (first-held (start .args .kind) (start .args .table .now) (start .pre .0 .1) _ _ (delta-is p) (tau-is p) (place h) (omega (arith, inside h))),
     )
 
 add-i : tie.Need-add-i Inv-loop μ-loop
-add-i c =
-    let m = sound-few _ _ (c .before .before .before .before .before .before .before .before .before .before .before .before .before .before .before .before .before .pre .0 .1) in
-    let l = inside (c .before .before .before .before .before .before .before .before) in
-    record { fits = omega arith }
+add-i c = let n = few (c .before .before .before .before .before .before .before .before) in record { fits = omega arith }
 
 loop-less : tie.Need-loop-less Inv-loop μ-loop
 loop-less c = let t = c .before .before .before .before .before .before .before .before .loop-test .taken in omega arith
 
 loop-again : tie.Need-loop-again Inv-loop μ-loop
 loop-again c =
-    let n = suc (c .before .before .before .before .before .before .before .before .before .before .before .before .before .before .before .before .before .args .v) in
-    let rows = c .before .before .before .before .before .before .before .before .before .before .before .before .before .before .before .before .before .args .ready .rows in
-    let deltas = c .before .before .before .before .before .before .before .before .before .before .before .before .before .before .powers .result in
-    let m = sound-few _ _ (c .before .before .before .before .before .before .before .before .before .before .before .before .before .before .before .before .before .pre .0 .1) in
-    let l = inside (c .before .before .before .before .before .before .before .before) in
-    let t = c .before .before .before .before .before .before .before .before .loop-test .taken in (
+    let h = c .before .before .before .before .before .before .before .before in
+    let l = h .before .loop in
+    let t = h .loop-test .taken in
+    let j = joined (c .before .before .before .before .before) in (
       omega arith,
-      length-set (c .before .before .before .before .before .before .before .before .before .loop .kept) (c .before .before .before .before .before .before .before .before .before .loop .i) _ ∙ c .before .before .before .before .before .before .before .before .before .loop .inv .1,
-      filled-more noKept (λ k x. x ≡ keptRow n rows deltas k) (c .before .before .before .before .before .before .before .before .before .loop .kept) (c .before .before .before .before .before .before .before .before .before .loop .i) (c .before .before .kept-for .result) (omega (arith, c .before .before .before .before .before .before .before .before .before .loop .inv .1)) (c .before .before .before .before .before .before .before .before .before .loop .inv .2) (c .before .before .kept-for .ensures),
+      j .0,
+      j .1,
       c .add-row .ensures
-          ∙ ap₂ (λ (x : Sums) (y : Kept). plusEach n x (addendsBy n (getD rows (c .before .before .before .before .before .before .before .before .before .loop .i) noRow .coefficient) (getD deltas (getD rows (c .before .before .before .before .before .before .before .before .before .loop .i) noRow .term .d) nothing) (getD rows (c .before .before .before .before .before .before .before .before .before .loop .i) noRow .tau) y)) (c .before .before .before .before .before .before .before .before .before .loop .inv .3) (c .before .before .kept-for .ensures)
-          ∙ rows-more n rows deltas (c .before .before .before .before .before .before .before .before .before .loop .i),
+          ∙ ap₂ (λ (x : Sums) (k : Kept). plusEach (bits h) x (addendsBy (bits h) (row h .coefficient) (getD (deltas h) (row h .term .d) nothing) (row h .tau) (k .e) (k .w) (k .s2))) (l .inv .3) (found (c .before .before .before .before .before))
+          ∙ rows-more (bits h) (rows h) (deltas h) (place h),
     )
 
 returns : tie.Need-returns Inv-loop μ-loop
 returns c =
-    let n = suc (c .before .before .before .before .before .before .before .before .before .args .v) in
-    let count = c .before .before .before .before .count-terms .ensures in
+    let start = c .before .before .before .before .before .before .before .before in
+    let a = start .args in
+    let n = suc (a .v) in
+    let count = c .before .before .before .count-terms .ensures in
     let l = c .loop-test .left in
-    let all : c .before .loop .i ≡ countTerms (c .before .before .before .before .before .before .before .before .before .args .kind) (c .before .before .before .before .before .before .before .before .before .args .table .now) = omega arith in
+    let i = c .before .loop .i in
+    let p = c .before .before .before .before .before in
+    let terms = termAt (a .kind) (a .table .now) in
+    let τ = tau n (exactOf (a .ready .t)) in
+    let size = countTerms (a .kind) (a .table .now) in
+    let all : i ≡ size = omega arith in
     c .before .loop .inv .3
-    ∙ ap (sumsRows n (c .before .before .before .before .before .before .before .before .before .args .ready .rows) (c .before .before .before .before .before .before .powers .result)) all
-    ∙ rows-sums (termAt (c .before .before .before .before .before .before .before .before .before .args .kind) (c .before .before .before .before .before .before .before .before .before .args .table .now)) (c .before .before .before .before .before .before .before .delta .result) (tau (suc (c .before .before .before .before .before .before .before .before .before .args .v)) (exactOf (c .before .before .before .before .before .before .before .before .before .args .ready .t))) (c .before .before .before .before .before .before .before .before .before .args .ready .rows) (c .before .before .before .before .before .before .powers .result) (countTerms (c .before .before .before .before .before .before .before .before .before .args .kind) (c .before .before .before .before .before .before .before .before .before .args .table .now)) (c .before .before .before .before .before .before .before .before .before .pre .0 .2 .rows) (by-c (c .before .before .before .before .before .before)) (by-d (c .before .before .before .before .before .before)) _ (le-refl _)
-    ∙ ap (λ (x : Bracket). sumsFirst n (termAt (c .before .before .before .before .before .before .before .before .before .args .kind) (c .before .before .before .before .before .before .before .before .before .args .table .now)) x (tau n (exactOf (c .before .before .before .before .before .before .before .before .before .args .ready .t))) (countTerms (c .before .before .before .before .before .before .before .before .before .args .kind) (c .before .before .before .before .before .before .before .before .before .args .table .now))) (c .before .before .before .before .before .before .before .delta .ensures)
-    ∙ sums-is n (c .before .before .before .before .before .before .before .before .before .args .kind) (c .before .before .before .before .before .before .before .before .before .args .table .now) (exactOf (c .before .before .before .before .before .before .before .before .before .args .ready .t)) (exactOf (c .before .before .before .before .before .before .before .before .before .args .rho))
+    ∙ ap (sumsRows n (a .ready .rows) (p .powers .result)) all
+    ∙ rows-sums terms (p .before .delta .result) τ (a .ready .rows) (p .powers .result) size (start .pre .0 .2 .rows) (by-c p) (by-d p) _ (le-refl _)
+    ∙ ap (λ (x : Bracket). sumsFirst n terms x τ size) (p .before .delta .ensures)
+    ∙ sums-is n (a .kind) (a .table .now) (exactOf (a .ready .t)) (exactOf (a .rho))
 
 pub sums-of-spec : {M : Type 1} → statement M
 sums-of-spec =
@@ -228,7 +302,6 @@ sums-of-spec =
     delta-requires
     powers-requires
     count-terms-requires
-    no-kept-requires
     no-sums-requires
     loop-holds
     mul-row
@@ -240,10 +313,22 @@ sums-of-spec =
     mul-kept-for-3
     array-copy-out-kept-for-3
     kept-for-requires
-    mul-kept
-    array-set-from-kept
+    mul-gs
+    array-set-from-gs
+    mul-es
+    array-set-from-es
+    mul-ws
+    array-set-from-ws
+    mul-factors
+    array-set-from-factors
     mul-add-row
     array-copy-out-add-row
+    mul-add-row-2
+    array-copy-out-add-row-2
+    mul-add-row-3
+    array-copy-out-add-row-3
+    mul-add-row-4
+    array-copy-out-add-row-4
     add-row-requires
     add-i
     loop-less
