@@ -30,25 +30,8 @@ fn value(v: u64, coefficient: Bracket, delta: Bracket, tau: Bracket, e: Bracket)
     bracket::product(v, by_tau, e)
 }
 
-fn addends(
-    v: u64,
-    coefficient: Bracket,
-    delta: Bracket,
-    tau: Bracket,
-    e: Bracket,
-    w: Bracket,
-    factor: Bracket,
-) -> Sums
-    requires { ⌜ Addable v coefficient delta tau e w factor ⌝ }
-    ensures { λ r. ⌜ r ≡ addendsBy (suc v) coefficient delta tau e w factor ⌝ }
-{
-    let s0 = value(v, coefficient, delta, tau, e);
-    let s1 = bracket::product(v, s0, w);
-    let s2 = bracket::product(v, s0, factor);
-    Sums { s0, s1, s2 }
-}
-
-// The sums with a row's addends, by its power of delta. They are added here and not by a call: so the sums of the pass stay scalars.
+// The sums with a row's addends, by its power of delta and what is kept for it. All is done here, and nothing is handed on whole: so the sums
+// of the pass stay scalars.
 fn add_row(
     v: u64,
     row: Row,
@@ -63,10 +46,12 @@ fn add_row(
 {
     let coefficient = row.coefficient;
     let tau = row.tau;
-    let a = addends(v, coefficient, delta, tau, e, w, factor);
-    let s0 = bracket::sum(v, s.s0, a.s0);
-    let s1 = bracket::sum(v, s.s1, a.s1);
-    let s2 = bracket::sum(v, s.s2, a.s2);
+    let a0 = value(v, coefficient, delta, tau, e);
+    let a1 = bracket::product(v, a0, w);
+    let a2 = bracket::product(v, a0, factor);
+    let s0 = bracket::sum(v, s.s0, a0);
+    let s1 = bracket::sum(v, s.s1, a1);
+    let s2 = bracket::sum(v, s.s2, a2);
     Sums { s0, s1, s2 }
 }
 
