@@ -6,17 +6,8 @@ ghost use mathlib.Core.Bool.{true};
 ghost use Prim.Native.Nat.{suc, _+_, _-_, _<_};
 ghost use Rattle.bracket.specs.Rules.{ends, stretched};
 ghost use Rattle.bracket.specs.Held.{Held};
-ghost use Rattle.series.specs.Exponential.{expTerm, expTotal, expneg};
+ghost use Rattle.series.specs.Exponential.{expTotal, expneg};
 ghost use Rattle.series.specs.Terms.{Taken, termsTo};
-
-// Term k + 1 is (term k times x) divided by k + 1.
-fn next_term(v: u64, x: Bracket, term: Bracket, k: u64) -> Bracket
-    requires { ⌜ Held v x × Taken (ends x) × (k < 256) × (term ≡ expTerm (suc v) (ends x) k) ⌝ }
-    ensures { λ r. ⌜ r ≡ expTerm (suc v) (ends x) (k + 1) ⌝ }
-{
-    let product = bracket::product(v, term, x);
-    bracket::share(v, product, k + 1)
-}
 
 // Whether every step from here on only moves the sum's upper end to the next sheet number: the terms are above zero and no longer grow, and
 // the power of two above term k lies below one unit of the sum's last place. Each term to come takes such a step, and so does the last one
@@ -37,7 +28,7 @@ fn only_stretches(v: u64, x: Bracket, term: Bracket, sum: Bracket, k: u64) -> bo
     sheet::at_most(x.hi, sheet::whole(v, k + 1))
 }
 
-// The sum to 256, with the last term's upper end once more in its upper end.
+// The sum to 256, with the last term's upper end once more in its upper end. Term k + 1 is (term k times x) divided by k + 1.
 fn total(v: u64, x: Bracket) -> Bracket
     requires { ⌜ Held v x × Taken (ends x) ⌝ }
     ensures { λ r. ⌜ r ≡ expTotal (suc v) (ends x) ⌝ }
@@ -50,7 +41,8 @@ fn total(v: u64, x: Bracket) -> Bracket
         if only_stretches(v, x, term, sum, k) {
             return bracket::stretched(v, sum, 257 - k);
         }
-        term = next_term(v, x, term, k);
+        let product = bracket::product(v, term, x);
+        term = bracket::share(v, product, k + 1);
         sum = bracket::sum(v, sum, term);
         k += 1;
     }

@@ -8,7 +8,7 @@ use lib.Pow.{pow-mono}
 use Rattle.bracket.specs.Rules.{ends}
 use Rattle.series.specs.Terms.{Terms, termsTo}
 use Rattle.series.proofs.ExponentialHeld.{expTerm-held}
-use Rattle.series.proofs.ExponentialSteps.{held-as, term-held, sum-held, sum-next, expTerm-first, expSum-first, total-last}
+use Rattle.series.proofs.ExponentialSteps.{held-as, term-held, product-held, sum-held, term-next, sum-next, expTerm-first, expSum-first, total-last}
 use Rattle.series.proofs.exponential.total.Statement.{statement}
 use Rattle.series.proofs.exponential.total.Tie as tie
 
@@ -47,17 +47,28 @@ stretched-requires c κs =
 returns : tie.Need-returns Inv-loop μ-loop
 returns c = c .stretched .ensures ∙ sym (c .before .before .only-stretches .ensures (c .before .if1 .taken))
 
-next-term-requires : tie.Need-next-term-requires Inv-loop μ-loop
-next-term-requires c κs =
+product-requires : tie.Need-product-requires Inv-loop μ-loop
+product-requires c κs =
     let p = c .before .before .before .before .before .pre in
-    (p .0, p .1, omega arith, ap (λ (s : Terms). s .term) (c .before .before .before .loop .inv .1))
+    let i = c .before .before .before .loop .inv in
+    (term-held (p .0 .lo .width) (p .1) (i .0) (i .1), p .0)
+
+add-share : tie.Need-add-share Inv-loop μ-loop
+add-share c = search needs
+
+share-requires : tie.Need-share-requires Inv-loop μ-loop
+share-requires c κs =
+    let p = c .before .before .before .before .before .before .pre in
+    let i = c .before .before .before .before .loop .inv in
+    (product-held (p .0 .lo .width) (p .1) (i .0) (ap (λ (s : Terms). s .term) (i .1)) (c .product .ensures), omega arith, omega arith)
 
 sum-requires : tie.Need-sum-requires Inv-loop μ-loop
 sum-requires c κs =
-    let p = c .before .before .before .before .before .before .pre in
-    let w = p .0 .lo .width in
-    let l = c .before .before .before .before .loop in
-    (sum-held w (p .1) (l .inv .0) (l .inv .1), held-as (c .next-term .ensures) (expTerm-held w (p .1) (l .k + 1) (omega arith)))
+    let b = c .before .before .before .before .before .before .before in
+    let w = b .pre .0 .lo .width in
+    let l = c .before .before .before .before .before .loop in
+    let e = term-next (suc (b .args .v)) (ends (b .args .x)) (l .k) (ap (λ (s : Terms). s .term) (l .inv .1)) (c .before .product .ensures) (c .share .ensures) in
+    (sum-held w (b .pre .1) (l .inv .0) (l .inv .1), held-as e (expTerm-held w (b .pre .1) (l .k + 1) (omega arith)))
 
 add-k : tie.Need-add-k Inv-loop μ-loop
 add-k c = search needs
@@ -67,10 +78,12 @@ loop-less c = search needs
 
 loop-again : tie.Need-loop-again Inv-loop μ-loop
 loop-again c =
-    let a = c .before .before .before .before .before .before .before .args in
-    let l = c .before .before .before .before .before .loop in
-    let e = c .before .next-term .ensures in
-    let f = sum-next (suc (a .v)) (ends (a .x)) (l .k) (ap (λ (s : Terms). s .sum) (l .inv .1)) e (c .sum .ensures) in
+    let a = c .before .before .before .before .before .before .before .before .args in
+    let l = c .before .before .before .before .before .before .loop in
+    let n = suc (a .v) in
+    let X = ends (a .x) in
+    let e = term-next n X (l .k) (ap (λ (s : Terms). s .term) (l .inv .1)) (c .before .before .product .ensures) (c .before .share .ensures) in
+    let f = sum-next n X (l .k) (ap (λ (s : Terms). s .sum) (l .inv .1)) e (c .sum .ensures) in
     (omega arith, λ i. record { term = e i; sum = f i })
 
 add-last-requires : tie.Need-add-last-requires Inv-loop μ-loop
@@ -100,7 +113,9 @@ total-spec =
     sub-stretched
     stretched-requires
     returns
-    next-term-requires
+    product-requires
+    add-share
+    share-requires
     sum-requires
     add-k
     loop-less
