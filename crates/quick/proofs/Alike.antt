@@ -1,4 +1,4 @@
--- Terms of one key share c and factor, and d where the key is weighed. Assumes nothing.
+-- Terms of one key share c and factor, and d where the key is weighed; and terms that share these have one key. Assumes nothing.
 use mathlib.Core.Path.{_≡_}
 use mathlib.Core.Bool.{true, false}
 use Prim.Native.Nat.{ℕ, _+_, _*_, _≤_, _<_}
@@ -22,3 +22,12 @@ module _ (a b : Term) (p : Bounds a) (q : Bounds b) where
       let k = p .d-most in
       let l = q .d-most in
       (omega arith, omega arith, omega arith)
+
+module _ (a b : Term) (c : a .c ≡ b .c) (factor : a .factor ≡ b .factor) where
+  pub key-same : keyOf false a ≡ keyOf false b
+  unfolding keyOf
+  key-same = rw (c, factor)
+
+  pub key-like : a .d ≡ b .d → keyOf true a ≡ keyOf true b
+  unfolding keyOf
+  key-like d = rw (c, factor, d)

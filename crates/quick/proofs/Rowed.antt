@@ -1,8 +1,8 @@
 -- The rows of a list of terms: each by the keys of the list, and the same rows by a table's own terms. Assumes nothing.
-use mathlib.Core.Path.{_≡_, refl, sym, ap, ap₂, subst, _∙_}
+use mathlib.Core.Path.{_≡_, refl, sym, ap, subst, _∙_}
 use mathlib.Core.Bool.{true, false}
 use mathlib.Core.List.{List}
-use Prim.Native.Nat.{ℕ, suc, _+_, _*_, _≤_, _<_}
+use Prim.Native.Nat.{ℕ, suc, _≤_, _<_}
 use native.Mathlib.Nat.{le-refl, lt-of-le-of-lt}
 use native.Mathlib.Omega.{arith}
 use lib.ListN.{getD}
@@ -21,7 +21,7 @@ use Rattle.quick.specs.Powers.{nothing, PowersTo}
 use Rattle.quick.specs.Keys.{keyOf, KeysTo, FirstLike}
 use Rattle.quick.specs.Ready.{noRow, Reaches, SameBefore, RowFor, RowsTo, ReadyFor}
 use Rattle.quick.proofs.Listed.{listed-at}
-use Rattle.quick.proofs.Alike.{same-key, like-key}
+use Rattle.quick.proofs.Alike.{same-key, like-key, key-same, key-like}
 
 -- a row by the first places of its keys
 module _ (w : ℕ) (list : List Term) (count : ℕ) (bounds : AllBounds list count) (taus : List Bracket) (sames likes : List ℕ)
@@ -37,16 +37,11 @@ module _ (w : ℕ) (list : List Term) (count : ℕ) (bounds : AllBounds list cou
   keyed-like j l e = sym (by-like j (lt-of-le-of-lt l inside)) ∙ e ∙ by-like k inside
 
   -- equal fields at two places
-  key-same : (j : ℕ) → j ≤ k → term j .c ≡ term k .c → term j .factor ≡ term k .factor → getD sames j 0 ≡ getD sames k 0
-  unfolding keyOf
-  key-same j l c f = by-same j (lt-of-le-of-lt l inside) ∙ ap₂ (λ (m n : ℕ). m * 1024 + n) c f ∙ sym (by-same k inside)
+  fields-same : (j : ℕ) → j ≤ k → term j .c ≡ term k .c → term j .factor ≡ term k .factor → getD sames j 0 ≡ getD sames k 0
+  fields-same j l c f = by-same j (lt-of-le-of-lt l inside) ∙ key-same (term j) (term k) c f ∙ sym (by-same k inside)
 
-  key-like : (j : ℕ) → j ≤ k → term j .c ≡ term k .c → term j .factor ≡ term k .factor → term j .d ≡ term k .d → getD likes j 0 ≡ getD likes k 0
-  unfolding keyOf
-  key-like j l c f d =
-      by-like j (lt-of-le-of-lt l inside)
-      ∙ ap₂ (λ (m n : ℕ). m * 32 + n) (ap₂ (λ (m n : ℕ). m * 1024 + n) c f) d
-      ∙ sym (by-like k inside)
+  fields-like : (j : ℕ) → j ≤ k → term j .c ≡ term k .c → term j .factor ≡ term k .factor → term j .d ≡ term k .d → getD likes j 0 ≡ getD likes k 0
+  fields-like j l c f d = by-like j (lt-of-le-of-lt l inside) ∙ key-like (term j) (term k) c f d ∙ sym (by-like k inside)
 
   pub row-for : (same like : ℕ) → FirstLike sames k same → FirstLike likes k like → {row : Row}
       → row ≡ record { term = term k; coefficient = coefficient w (term k); tau = getD taus (term k .t) nothing; same = same; like = like }
@@ -60,10 +55,10 @@ module _ (w : ℕ) (list : List Term) (count : ℕ) (bounds : AllBounds list cou
         is-coefficient = refl;
         is-tau = refl;
         same = record { before = s .before; same-c = p .0; same-factor = p .1 };
-        same-first = λ j h c f. s .first j h (key-same j (omega (arith, s .before)) c f);
+        same-first = λ j h c f. s .first j h (fields-same j (omega (arith, s .before)) c f);
         like = record { before = l .before; same-c = q .0; same-factor = q .1 };
         like-d = q .2;
-        like-first = λ j h c f d. l .first j h (key-like j (omega (arith, l .before)) c f d);
+        like-first = λ j h c f d. l .first j h (fields-like j (omega (arith, l .before)) c f d);
       })
 
 -- the same row by other names of the terms and of the powers
