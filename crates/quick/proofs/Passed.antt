@@ -15,13 +15,12 @@ use Rattle.bracket.specs.declared.Bracket.{Bracket}
 use Rattle.bracket.specs.Rules.{power}
 use Rattle.equation.specs.declared.Sums.{Sums}
 use Rattle.equation.specs.Ranged.{DeltaIn, TauIn}
-use Rattle.equation.specs.Rules.{scaled, factorE, coefficient, addends, plusEach, noSums, sumsFirst}
+use Rattle.equation.specs.Rules.{scaled, factorE, termW, factorS2, coefficient, addends, plusEach, noSums, sumsFirst}
 use Rattle.equation.proofs.Holds.{delta-power-held, term-g-in}
 use Rattle.quick.specs.declared.ready.Row.{Row}
-use Rattle.quick.specs.declared.kept.Kept.{Kept}
 use Rattle.quick.specs.Powers.{nothing}
 use Rattle.quick.specs.Ready.{noRow, RowFor, RowsTo}
-use Rattle.quick.specs.Kept.{weighedBy, keptOf, addendsBy, Keepable, Addable}
+use Rattle.quick.specs.Kept.{Kept, weighedBy, keptOf, addendsBy, Keepable, Addable}
 use Rattle.quick.proofs.Filled.{over-or-less}
 use Rattle.quick.proofs.Shared.{addends-by, term-addable}
 
@@ -73,6 +72,15 @@ module _ (w : ℕ) (a b : Term) (p : Bracket) (c : a .c ≡ b .c) (factor : a .f
   kept-alike d =
       ap₂ (λ (m n : ℕ). weighedBy w m (a .d) (scaled w m n p) (factorE w m (scaled w m n p))) c factor
       ∙ ap (λ (k : ℕ). weighedBy w (b .c) k (scaled w (b .c) (b .factor) p) (factorE w (b .c) (scaled w (b .c) (b .factor) p))) d
+
+-- what is kept for a term, part by part
+pub kept-made : (w : ℕ) (t : Term) (p : Bracket) {x : Kept} → x .g ≡ scaled w (t .c) (t .factor) p → x .e ≡ factorE w (t .c) (x .g) → x .w ≡ termW w (t .d) (t .c) (x .g) → x .s2 ≡ factorS2 w (t .c) (x .g) (x .w) → x ≡ keptOf w t p
+unfolding keptOf weighedBy
+kept-made w t p g e tw f =
+    let e' = e ∙ ap (factorE w (t .c)) g in
+    let tw' = tw ∙ ap (termW w (t .d) (t .c)) g in
+    let f' = f ∙ ap₂ (factorS2 w (t .c)) g tw' in
+    λ i. record { g = g i; e = e' i; w = tw' i; s2 = f' i }
 
 -- ---- rows of some terms
 

@@ -11,7 +11,12 @@ use Rattle.equation.specs.declared.Sums.{Sums}
 use Rattle.equation.specs.Rules.{scaled, factorE, termW, factorS2}
 use Rattle.equation.specs.Ranged.{GIn, AllHeld}
 use Rattle.quick.specs.declared.ready.Row.{Row}
-use Rattle.quick.specs.declared.kept.Kept.{Kept}
+
+pub record Kept : Type 0 where
+  pub g : Bracket
+  pub e : Bracket
+  pub w : Bracket
+  pub s2 : Bracket
 
 -- by g and E: w and the factor of S2
 unfoldable pub weighedBy : (w c d : ℕ) → (g e : Bracket) → Kept

@@ -1,5 +1,6 @@
 // The three sums at one density: one pass over the rows, from zero, left to right.
-use crate::kept::kept_for;
+use crate::kept::e_for;
+use crate::kept::g_for;
 use crate::powers::powers;
 use crate::ready::Ready;
 use crate::ready::Row;
@@ -84,11 +85,10 @@ pub fn sums_of(v: u64, kind: u64, table: &[u8], ready: Ready, rho: f64) -> Sums
         let c = term.c as usize;
         let d = term.d as usize;
         if like == i {
-            let own = kept_for(v, i, row, gs[same], es[same], deltas[c]);
-            let g = own.g;
-            let e = own.e;
-            let w = own.w;
-            let factor = own.s2;
+            let g = g_for(v, i, same, term, gs[same], deltas[c]);
+            let e = e_for(v, i, same, term.c, es[same], g);
+            let w = equation::term_w(v, term.d, term.c, g);
+            let factor = equation::factor_s2(v, term.c, g, w);
             gs[i] = g;
             es[i] = e;
             ws[i] = w;

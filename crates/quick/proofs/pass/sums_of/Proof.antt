@@ -13,19 +13,18 @@ use Rattle.term.proofs.Answers.{sound-few, sound-bounds}
 use Rattle.bracket.specs.declared.Bracket.{Bracket}
 use Rattle.bracket.specs.Rules.{power}
 use Rattle.equation.specs.declared.Sums.{Sums}
-use Rattle.equation.specs.Ranged.{DeltaIn, TauIn, AllHeld}
-use Rattle.equation.specs.Rules.{delta, tau, plusEach, sumsFirst}
+use Rattle.equation.specs.Ranged.{DeltaIn, TauIn, GIn, WIn, AllHeld}
+use Rattle.equation.specs.Rules.{delta, tau, scaled, factorE, plusEach, sumsFirst}
 use Rattle.equation.proofs.Cases.{sums-is}
-use Rattle.equation.proofs.Holds.{delta-in, tau-in, delta-powers}
+use Rattle.equation.proofs.Holds.{delta-in, tau-in, delta-powers, w-in}
 use Rattle.equation.proofs.HoldsSums.{first-held}
 use Rattle.equation.proofs.Taken.{temperature-of, density-of}
 use Rattle.doubles.specs.Double.{exactOf}
-use Rattle.quick.specs.declared.kept.Kept.{Kept}
 use Rattle.quick.specs.declared.ready.Row.{Row}
 use Rattle.quick.specs.Powers.{nothing}
 use Rattle.quick.specs.Ready.{noRow, RowFor}
-use Rattle.quick.specs.Kept.{addendsBy, Keepable, Addable}
-use Rattle.quick.proofs.Passed.{keptAt, keptRow, KeptTo, sumsRows, rows-none, rows-more, rows-sums, row-keepable, row-addable, kept-found, kept-new}
+use Rattle.quick.specs.Kept.{Kept, addendsBy, Keepable, Addable}
+use Rattle.quick.proofs.Passed.{keptAt, keptRow, KeptTo, sumsRows, rows-none, rows-more, rows-sums, row-keepable, row-addable, kept-made, kept-found, kept-new}
 use Rattle.quick.proofs.pass.sums_of.Statement.{statement}
 use Rattle.quick.proofs.pass.sums_of.Tie as tie
 
@@ -147,10 +146,11 @@ joined c =
     let f = l .inv .1 in
     ⊎-elim
     (λ w.
-    let own = w .4 .result in
-    rw (w .9, w .10, w .11, w .12) (
-      (length-set (l .gs) i (own .g) ∙ f .0, length-set (l .es) i (own .e) ∙ f .1, length-set (l .ws) i (own .w) ∙ f .2, length-set (l .factors) i (own .s2) ∙ f .3),
-      kept-new (terms h) (δ h) (reduced h) (rows h) (deltas h) (size h) (h .before .before .before .before .before .before .before .before .pre .0 .2 .rows) (by-c (h .before .before .before .before .before)) (by-d (h .before .before .before .before .before)) (l .gs) (l .es) (l .ws) (l .factors) i (inside h) (l .inv .2) own (w .4 .ensures) (w .0 .taken)
+    let own : Kept = record { g = w .3 .result; e = w .5 .result; w = w .6 .result; s2 = w .7 .result } in
+    rw (w .8, w .9, w .10, w .11) (
+      (length-set (l .gs) i _ ∙ f .0, length-set (l .es) i _ ∙ f .1, length-set (l .ws) i _ ∙ f .2, length-set (l .factors) i _ ∙ f .3),
+      kept-new (terms h) (δ h) (reduced h) (rows h) (deltas h) (size h) (h .before .before .before .before .before .before .before .before .pre .0 .2 .rows) (by-c (h .before .before .before .before .before)) (by-d (h .before .before .before .before .before)) (l .gs) (l .es) (l .ws) (l .factors) i (inside h) (l .inv .2) own
+          (kept-made (bits h) (row h .term) (getD (deltas h) (row h .term .c) nothing) (w .3 .ensures) (w .5 .ensures) (w .6 .ensures) (w .7 .ensures)) (w .0 .taken)
           (omega (arith, n, f .0), omega (arith, n, f .1), omega (arith, n, f .2), omega (arith, n, f .3)),
     ))
     (λ w.
@@ -172,50 +172,73 @@ mul-row c = let n = few c in record { fits = omega arith }
 array-copy-out-row : tie.Need-array-copy-out-row Inv-loop μ-loop
 array-copy-out-row c = few c
 
-mul-kept-for : tie.Need-mul-kept-for Inv-loop μ-loop
-mul-kept-for c = let n = same-few (c .before .before .before) in record { fits = omega arith }
+mul-g-for : tie.Need-mul-g-for Inv-loop μ-loop
+mul-g-for c = let n = same-few (c .before .before .before) in record { fits = omega arith }
 
-array-copy-out-kept-for : tie.Need-array-copy-out-kept-for Inv-loop μ-loop
-array-copy-out-kept-for c = same-few (c .before .before .before)
+array-copy-out-g-for : tie.Need-array-copy-out-g-for Inv-loop μ-loop
+array-copy-out-g-for c = same-few (c .before .before .before)
 
-mul-kept-for-2 : tie.Need-mul-kept-for-2 Inv-loop μ-loop
-mul-kept-for-2 c = let n = same-few (c .before .before .before .before) in record { fits = omega arith }
+mul-g-for-2 : tie.Need-mul-g-for-2 Inv-loop μ-loop
+mul-g-for-2 c = let n = c-few (c .before .before .before .before) in record { fits = omega arith }
 
-array-copy-out-kept-for-2 : tie.Need-array-copy-out-kept-for-2 Inv-loop μ-loop
-array-copy-out-kept-for-2 c = same-few (c .before .before .before .before)
+array-copy-out-g-for-2 : tie.Need-array-copy-out-g-for-2 Inv-loop μ-loop
+array-copy-out-g-for-2 c = c-few (c .before .before .before .before)
 
-mul-kept-for-3 : tie.Need-mul-kept-for-3 Inv-loop μ-loop
-mul-kept-for-3 c = let n = c-few (c .before .before .before .before .before) in record { fits = omega arith }
+g-for-requires : tie.Need-g-for-requires Inv-loop μ-loop
+g-for-requires c κs = let k = keepable (c .before .before .before .before .before) in (k .bounds, (k .power-held, k .same-g))
 
-array-copy-out-kept-for-3 : tie.Need-array-copy-out-kept-for-3 Inv-loop μ-loop
-array-copy-out-kept-for-3 c = c-few (c .before .before .before .before .before)
+mul-e-for : tie.Need-mul-e-for Inv-loop μ-loop
+mul-e-for c = let n = same-few (c .before .before .before .before .before .before) in record { fits = omega arith }
 
-kept-for-requires : tie.Need-kept-for-requires Inv-loop μ-loop
-kept-for-requires c κs = keepable (c .before .before .before .before .before .before)
+array-copy-out-e-for : tie.Need-array-copy-out-e-for Inv-loop μ-loop
+array-copy-out-e-for c = same-few (c .before .before .before .before .before .before)
+
+-- g is where the equation wants it
+g-is : (h : tie.In-loop Inv-loop μ-loop) {g : Bracket} → g ≡ scaled (bits h) (row h .term .c) (row h .term .factor) (getD (deltas h) (row h .term .c) nothing) → GIn (h .before .before .before .before .before .before .before .before .args .v) g
+g-is h e = subst (GIn _) (sym e) (keepable h .g-in)
+
+e-for-requires : tie.Need-e-for-requires Inv-loop μ-loop
+e-for-requires c κs =
+    let h = c .before .before .before .before .before .before .before in
+    let g = c .before .g-for .ensures in
+    (g-is h g, λ l. keepable h .same-e l ∙ ap (factorE (bits h) (row h .term .c)) (sym g))
+
+term-w-requires : tie.Need-term-w-requires Inv-loop μ-loop
+term-w-requires c κs =
+    let h = c .before .before .before .before .before .before .before .before in
+    let b = keepable h .bounds in
+    ((b .d-above, b .d-most), (b .c-most, g-is h (c .before .before .g-for .ensures)))
+
+factor-s2-requires : tie.Need-factor-s2-requires Inv-loop μ-loop
+factor-s2-requires c κs =
+    let h = c .before .before .before .before .before .before .before .before .before in
+    let b = keepable h .bounds in
+    let g = g-is h (c .before .before .before .g-for .ensures) in
+    (b .c-most, (g, subst (WIn _) (sym (c .term-w .ensures)) (w-in _ g (row h .term .d) (row h .term .c) (b .d-above) (b .d-most) (b .c-most))))
 
 mul-gs : tie.Need-mul-gs Inv-loop μ-loop
-mul-gs c = let n = few (c .before .before .before .before .before .before .before .before .before .before .before) in record { fits = omega arith }
+mul-gs c = let n = few (c .before .before .before .before .before .before .before .before .before .before) in record { fits = omega arith }
 
 array-set-from-gs : tie.Need-array-set-from-gs Inv-loop μ-loop
-array-set-from-gs c = few (c .before .before .before .before .before .before .before .before .before .before .before)
+array-set-from-gs c = few (c .before .before .before .before .before .before .before .before .before .before)
 
 mul-es : tie.Need-mul-es Inv-loop μ-loop
-mul-es c = let n = few (c .before .before .before .before .before .before .before .before .before .before .before) in record { fits = omega arith }
+mul-es c = let n = few (c .before .before .before .before .before .before .before .before .before .before) in record { fits = omega arith }
 
 array-set-from-es : tie.Need-array-set-from-es Inv-loop μ-loop
-array-set-from-es c = few (c .before .before .before .before .before .before .before .before .before .before .before)
+array-set-from-es c = few (c .before .before .before .before .before .before .before .before .before .before)
 
 mul-ws : tie.Need-mul-ws Inv-loop μ-loop
-mul-ws c = let n = few (c .before .before .before .before .before .before .before .before .before .before .before) in record { fits = omega arith }
+mul-ws c = let n = few (c .before .before .before .before .before .before .before .before .before .before) in record { fits = omega arith }
 
 array-set-from-ws : tie.Need-array-set-from-ws Inv-loop μ-loop
-array-set-from-ws c = few (c .before .before .before .before .before .before .before .before .before .before .before)
+array-set-from-ws c = few (c .before .before .before .before .before .before .before .before .before .before)
 
 mul-factors : tie.Need-mul-factors Inv-loop μ-loop
-mul-factors c = let n = few (c .before .before .before .before .before .before .before .before .before .before .before) in record { fits = omega arith }
+mul-factors c = let n = few (c .before .before .before .before .before .before .before .before .before .before) in record { fits = omega arith }
 
 array-set-from-factors : tie.Need-array-set-from-factors Inv-loop μ-loop
-array-set-from-factors c = few (c .before .before .before .before .before .before .before .before .before .before .before)
+array-set-from-factors c = few (c .before .before .before .before .before .before .before .before .before .before)
 
 mul-add-row : tie.Need-mul-add-row Inv-loop μ-loop
 mul-add-row c = let n = d-few (c .before .before .before) in record { fits = omega arith }
@@ -306,13 +329,16 @@ sums-of-spec =
     loop-holds
     mul-row
     array-copy-out-row
-    mul-kept-for
-    array-copy-out-kept-for
-    mul-kept-for-2
-    array-copy-out-kept-for-2
-    mul-kept-for-3
-    array-copy-out-kept-for-3
-    kept-for-requires
+    mul-g-for
+    array-copy-out-g-for
+    mul-g-for-2
+    array-copy-out-g-for-2
+    g-for-requires
+    mul-e-for
+    array-copy-out-e-for
+    e-for-requires
+    term-w-requires
+    factor-s2-requires
     mul-gs
     array-set-from-gs
     mul-es
