@@ -1,9 +1,9 @@
 -- The table of signs as the product reads it: the ends that meet, by the sign of all of one factor and those of the other's ends. Assumes
 -- nothing.
-use mathlib.Core.Path.{_≡_, refl, sym, _∙_}
+use mathlib.Core.Path.{_≡_, refl, sym, ap, _∙_}
 use mathlib.Core.Bool.{Bool, true, false, not, _&&_, false≢true}
 use Prim.Native.Nat.{ℕ, suc}
-use Rattle.exact.specs.Fraction.{_⊗_}
+use Rattle.exact.specs.Fraction.{Fraction, _⊗_}
 use Rattle.sheet.specs.declared.Sheet.{Sheet}
 use Rattle.sheet.specs.Number.{value}
 use Rattle.sheet.specs.Round.{down, up}
@@ -30,6 +30,10 @@ end-value false b = refl
 end-range : {v : ℕ} (t : Bool) (b : Bracket) → Held v b → InRange v (endOf t b)
 end-range true b h = h .hi
 end-range false b h = h .lo
+
+-- the rounded product of x with the end that its sign picks, where the sign is known
+pub met-by-sign : (rounding : Fraction → Sheet) (pick : Bool → Bool) (x : Sheet) (b : Bracket) {t : Bool} → x .neg ≡ t → rounding (value x ⊗ side (pick t) (ends b)) ≡ rounding (value x ⊗ side (pick (x .neg)) (ends b))
+met-by-sign rounding pick x b e = ap (λ (t : Bool). rounding (value x ⊗ side (pick t) (ends b))) (sym e)
 
 -- x is the sign of all of b, s and t the signs of the ends of a that give the least and the greatest product
 pub meets : {v : ℕ} {a b : Bracket} (x s t : Bool) → Held v a → Held v b → Sign x (side x (ends b)) → Sign s (side x (ends a)) → Sign t (side (not x) (ends a))

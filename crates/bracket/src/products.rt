@@ -91,7 +91,7 @@ fn least_grown(v: u64, x: Sheet, b: Bracket) -> Sheet
     sheet::product(v, false, x, b.lo)
 }
 
-// The greatest: an x below zero meets the lower end.
+// The greatest: an x below zero meets the lower end. Not one function for both directions: called in two places it would stay a call.
 fn greatest_grown(v: u64, x: Sheet, b: Bracket) -> Sheet
     requires { ⌜ InRange v x × Held v b ⌝ }
     ensures { λ r. ⌜ r ≡ up (suc v) (value x ⊗ side (not (x .neg)) (ends b)) ⌝ }

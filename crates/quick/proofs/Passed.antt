@@ -104,30 +104,29 @@ module _ {v : ℕ} (terms : ℕ → Term) (δ τ : Bracket) (rows : List Row) (d
   rows-sums zero l = refl
   rows-sums (suc m) l = ap₂ (plusEach (suc v)) (rows-sums m (omega arith)) (is-addend m l)
 
-  -- the first place with a row's c, factor and d is its own first, and so is the first with its c and factor
+  -- a place before which no other has its c, factor and d looks for them at itself
+  own-first : (p : ℕ) → p < n → ((j : ℕ) → j < p → terms j .c ≡ terms p .c → terms j .factor ≡ terms p .factor → terms j .d ≡ terms p .d → ⊥) → getD rows p noRow .like ≡ p
+  own-first p l none =
+      let r = rowed p l in
+      let under = r .like .before in
+      let over : p ≤ getD rows p noRow .like = elim (over-or-less p (getD rows p noRow .like)) [
+        | inl h ↦ h
+        | inr h ↦ absurd (none _ h (r .like .same-c) (r .like .same-factor) (r .like-d))
+      ] in
+      omega arith
+
+  -- so do the first places that a row names
   like-first : (k : ℕ) → k < n → getD rows (getD rows k noRow .like) noRow .like ≡ getD rows k noRow .like
   like-first k l =
       let r = rowed k l in
       let b = r .like .before in
-      let s = rowed (getD rows k noRow .like) (omega arith) in
-      let over : getD rows k noRow .like ≤ getD rows (getD rows k noRow .like) noRow .like = elim (over-or-less (getD rows k noRow .like) (getD rows (getD rows k noRow .like) noRow .like)) [
-        | inl h ↦ h
-        | inr h ↦ absurd (r .like-first _ h (s .like .same-c ∙ r .like .same-c) (s .like .same-factor ∙ r .like .same-factor) (s .like-d ∙ r .like-d))
-      ] in
-      let under = s .like .before in
-      omega arith
+      own-first _ (omega arith) (λ j h c f d. r .like-first j h (c ∙ r .like .same-c) (f ∙ r .like .same-factor) (d ∙ r .like-d))
 
   same-first : (k : ℕ) → k < n → getD rows (getD rows k noRow .same) noRow .like ≡ getD rows k noRow .same
   same-first k l =
       let r = rowed k l in
       let b = r .same .before in
-      let s = rowed (getD rows k noRow .same) (omega arith) in
-      let over : getD rows k noRow .same ≤ getD rows (getD rows k noRow .same) noRow .like = elim (over-or-less (getD rows k noRow .same) (getD rows (getD rows k noRow .same) noRow .like)) [
-        | inl h ↦ h
-        | inr h ↦ absurd (r .same-first _ h (s .like .same-c ∙ r .same .same-c) (s .like .same-factor ∙ r .same .same-factor))
-      ] in
-      let under = s .like .before in
-      omega arith
+      own-first _ (omega arith) (λ j h c f _. r .same-first j h (c ∙ r .same .same-c) (f ∙ r .same .same-factor))
 
   -- what earlier places kept
   module _ (gs es ws factors : List Bracket) (i : ℕ) (inside : i < n) (kept : KeptTo (suc v) rows deltas gs es ws factors i) where

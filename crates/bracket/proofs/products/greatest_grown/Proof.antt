@@ -1,13 +1,10 @@
 -- `bracket::products::greatest_grown` meets its contract: the sign says which end is met. Assumes nothing.
-use mathlib.Core.Path.{sym, ap, _∙_}
-use mathlib.Core.Bool.{Bool, not}
+use mathlib.Core.Path.{_∙_}
+use mathlib.Core.Bool.{not}
 use Prim.Native.Nat.{suc}
 use borrow.Author.Needs.{needs}
-use Rattle.exact.specs.Fraction.{_⊗_}
-use Rattle.sheet.specs.Number.{value}
 use Rattle.sheet.specs.Round.{up}
-use Rattle.bracket.specs.Span.{side}
-use Rattle.bracket.specs.Rules.{ends}
+use Rattle.bracket.proofs.Meetings.{met-by-sign}
 use Rattle.bracket.proofs.products.greatest_grown.Statement.{statement}
 use Rattle.bracket.proofs.products.greatest_grown.Tie as tie
 
@@ -17,7 +14,7 @@ product-requires c κs = search needs
 returns : tie.Need-returns
 returns c =
     let k = c .before .before .args in
-    c .product .ensures ∙ ap (λ (t : Bool). up (suc (k .v)) (value (k .x) ⊗ side (not t) (ends (k .b)))) (sym (c .before .if1 .taken))
+    c .product .ensures ∙ met-by-sign (up (suc (k .v))) not (k .x) (k .b) (c .before .if1 .taken)
 
 product-requires-2 : tie.Need-product-requires-2
 product-requires-2 c κs = search needs
@@ -25,7 +22,7 @@ product-requires-2 c κs = search needs
 returns-2 : tie.Need-returns-2
 returns-2 c =
     let k = c .before .before .args in
-    c .product2 .ensures ∙ ap (λ (t : Bool). up (suc (k .v)) (value (k .x) ⊗ side (not t) (ends (k .b)))) (sym (c .before .if1 .left))
+    c .product2 .ensures ∙ met-by-sign (up (suc (k .v))) not (k .x) (k .b) (c .before .if1 .left)
 
 pub greatest-grown-spec : {M : Type 1} → statement M
 greatest-grown-spec = tie.close (tie.spec product-requires returns product-requires-2 returns-2)
