@@ -10,8 +10,8 @@ ROOT = os.path.dirname(os.path.dirname(os.path.dirname(os.path.abspath(__file__)
 sys.path[:0] = [ROOT, os.path.join(ROOT, "tests"), os.path.join(ROOT, "data")]
 
 FILES = ("test_numbers", "test_brackets", "test_plain", "test_terms", "test_text", "test_convert", "test_verdicts",
-         "test_kinds", "test_lent", "test_both_sides", "test_cover", "test_table5", "test_table4", "test_proposals",
-         "test_compare")
+         "test_kinds", "test_lent", "test_virial", "test_both_sides", "test_cover", "test_table5", "test_table4",
+         "test_proposals", "test_compare")
 
 
 def tests():

@@ -115,3 +115,20 @@ class Plain:
     def gibbs_gap(self, T, liquid, vapour, a, b):
         gap = self.less(self.plus(a[0], a[1]), self.plus(b[0], b[1]))
         return self.times(self.times(self.R, self.given(T)), self.plus(self.logarithm(liquid, vapour), gap))
+
+    # the vapour card
+
+    def card(self, terms, T, rho):
+        given, plus, less, times, over = self.given, self.plus, self.less, self.times, self.over
+        tau = over(given(Fraction("647.14")), given(T))
+        linear = square = damped = given(0)
+        for c, _, d, t, negative, magnitude, _ in terms:
+            v = times(given(Fraction((-1) ** negative * magnitude, 10 ** 16)), self.power(tau, t))
+            linear = plus(linear, v) if d == 1 else linear
+            square = plus(square, v) if d == 2 else square
+            damped = plus(damped, v) if (c, d) == (1, 1) else damped
+        B = over(linear, given(322))
+        C = over(times(given(2), less(square, damped)), times(given(322), given(322)))
+        rho = given(rho)
+        factor = plus(plus(given(1), times(B, rho)), times(times(C, rho), rho))
+        return B, C, times(times(times(rho, self.R), given(T)), factor)
