@@ -140,6 +140,9 @@ uint64_t wb_pair_lent(uint64_t width, uint64_t kind, const uint8_t *table, size_
                       size_t terms_count, double temperature, double liquid, double vapour, double pressure_tolerance,
                       double gibbs_tolerance, uint64_t choice);
 
+uint64_t wb_virial(uint64_t width, const uint8_t *table, size_t table_bytes, double temperature, double density,
+                   uint64_t choice);
+
 /* Reading: a table typed as text becomes packed terms of nine bytes.  The text has 1 to 64 rows, each ended by a line
  * feed:
  *     3 5 15 -0.1216139400e-1

@@ -1,13 +1,13 @@
-/* Random calls of the three checks' C entries, plain and with a lent slice of terms, each made twice: the two answers
- * must be the same, and the lent bytes as before.  Two slices that were the same must be so afterwards, and where there
- * is room for any table the answer must be the plain call's.
+/* Random calls of the C entries of the three checks, plain and with a lent slice of terms, and of the vapour card, each
+ * made twice: the two answers must be the same, and the lent bytes as before.  Two slices that were the same must be so
+ * afterwards, and where there is room for any table the answer must be the plain call's.
  *
  *   panel_twice CALLS DEEP [SEED]
  *
  * Every call has random bytes as its table and its slice, and random bit patterns as its doubles; its width is mostly
  * 32 or 53, its kind mostly 38 or 58, and either at times any number.  Of every DEEP calls one is made to get as far as
  * the equation: such a width and kind, a sound table of one to three terms and numbers in their ranges; 0 makes none of
- * these.
+ * these.  The vapour card takes no kind; its sound tables are those of kind 38.
  * Ends with a line 'N passed, M failed'. */
 #include <inttypes.h>
 #include <stdio.h>
@@ -17,8 +17,8 @@
 
 enum { LONGEST_TABLE = 800, NUMBERS = 5, OLD_TERM = 9, NEW_TERM = 12, MOST_TERMS = 64, LARGEST_ROOM = 70 };
 
-/* The plain calls are 0 to 2; those with a slice stand in the same order behind them. */
-enum { WITH_A_SLICE = 3, FUNCTIONS = 6 };
+/* The plain calls are 0 to 2; those with a slice stand in the same order behind them, and then the vapour card. */
+enum { WITH_A_SLICE = 3, CARD = 6, FUNCTIONS = 7 };
 
 static uint64_t state;
 
@@ -50,9 +50,9 @@ static uint64_t sound_width(void)
     return next() % 2 ? 32 : 53;
 }
 
-static uint64_t sound_kind(void)
+static uint64_t sound_kind(uint64_t function)
 {
-    return next() % 2 ? WB_NINE_BYTES : WB_TWELVE_BYTES;
+    return function == CARD || next() % 2 ? WB_NINE_BYTES : WB_TWELVE_BYTES;
 }
 
 static size_t term_bytes(uint64_t kind)
@@ -60,9 +60,15 @@ static size_t term_bytes(uint64_t kind)
     return kind == WB_NINE_BYTES ? OLD_TERM : NEW_TERM;
 }
 
+static int is_lent_a_slice(const struct call *c)
+{
+    return c->function >= WITH_A_SLICE && c->function < CARD;
+}
+
 static void any_call(struct call *c)
 {
-    c->kind = next() % 8 ? sound_kind() : next() >> next() % 64;
+    c->function = next() % FUNCTIONS;
+    c->kind = next() % 8 ? sound_kind(c->function) : next() >> next() % 64;
     /* one in four has a length that a table may have */
     c->length = next() % 4 ? next() % (LONGEST_TABLE + 1) : term_bytes(c->kind) * (1 + next() % 64);
     for (size_t i = 0; i < LONGEST_TABLE; i++)
@@ -79,8 +85,7 @@ static void any_call(struct call *c)
     for (int i = 0; i < NUMBERS; i++)
         c->x[i] = wb_double(next());
     c->width = next() % 8 ? sound_width() : next() >> c->length % 64;
-    c->function = next() % FUNCTIONS;
-    c->choice = next() % 8 ? next() % 7 : next();
+    c->choice = next() % 8 ? next() % 9 : next();
 }
 
 /* c 2 bits, d 4 from 1, t 5 up to 24, sign 1, magnitude 60 up to 10^17 */
@@ -114,11 +119,16 @@ static void deep_call(struct call *c)
 {
     any_call(c);
     c->width = sound_width();
-    c->kind = sound_kind();
+    c->kind = sound_kind(c->function);
     int old = c->kind == WB_NINE_BYTES;
     c->length = term_bytes(c->kind) * (1 + next() % 3);
     for (size_t i = 0; i < c->length; i += term_bytes(c->kind))
         (old ? sound_old_term : sound_new_term)(c->table + i);
+    if (c->function == CARD) {
+        c->x[0] = between(273, 1123);
+        c->x[1] = between(0.001, 55);
+        return;
+    }
     uint64_t check = c->function % WITH_A_SLICE;
     c->x[0] = between(check == 2 ? 273.16 : old ? 273 : 252, 1273);
     c->x[1] = between(322.5, old ? 1288 : 2576);
@@ -142,9 +152,11 @@ static uint64_t made(struct call *c)
     case 4:
         return wb_density_lent(c->width, c->kind, c->table, c->length, c->terms, c->room, x[0], x[1], x[2], x[3],
                                c->choice);
-    default:
+    case 5:
         return wb_pair_lent(c->width, c->kind, c->table, c->length, c->terms, c->room, x[0], x[1], x[2], x[3], x[4],
                             c->choice);
+    default:
+        return wb_virial(c->width, c->table, c->length, x[0], x[1], c->choice);
     }
 }
 
@@ -161,7 +173,7 @@ static int same_terms(const wb_term *a, const wb_term *b, size_t room)
 /* Whether a call left all as it was before, but for the slice that it was lent. */
 static int as_before(const struct call *before, struct call *after)
 {
-    if (before->function >= WITH_A_SLICE)
+    if (is_lent_a_slice(before))
         memcpy(after->terms, before->terms, before->room * sizeof(wb_term));
     return memcmp(before, after, sizeof *before) == 0;
 }
@@ -169,7 +181,7 @@ static int as_before(const struct call *before, struct call *after)
 static int as_the_plain_call(const struct call *before, uint64_t value)
 {
     static struct call plain;
-    if (before->function < WITH_A_SLICE || before->room < MOST_TERMS)
+    if (!is_lent_a_slice(before) || before->room < MOST_TERMS)
         return 1;
     memcpy(&plain, before, sizeof plain);
     plain.function -= WITH_A_SLICE;
