@@ -15,6 +15,7 @@ from random import Random
 
 sys.path.insert(0, os.path.dirname(os.path.dirname(os.path.abspath(__file__))))
 
+from gen_calls import both_sides  # noqa: E402
 from second import f64  # noqa: E402
 from second.kind import MOST, NINE  # noqa: E402
 from second.panel import chosen  # noqa: E402
@@ -101,12 +102,6 @@ def a_table(random):
 
 
 # numbers
-
-def both_sides(*limits):
-    """Each limit, and the f64s next to it."""
-    for limit in limits:
-        yield from (W(limit), samples.above(W(limit)), samples.under(W(limit)))
-
 
 def temperature(random):
     return random.choice([samples.between(random, 273, 1123), W(random.randint(273, 1123)), W(647.14), W(273.0),
