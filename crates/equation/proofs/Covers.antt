@@ -50,7 +50,7 @@ delta-in : (v : ℕ) (rho : Fraction) → deltaAt rho ∈ ends (delta (suc v) rh
 unfolding delta deltaAt
 delta-in v rho = divided-in v (nat-pos (omega arith)) (given-in v rho) (in-point (nat 322))
 
-tau-in : (v : ℕ) {T : Fraction} → Temperature T → tauAt T ∈ ends (tau (suc v) T)
+pub tau-in : (v : ℕ) {T : Fraction} → Temperature T → tauAt T ∈ ends (tau (suc v) T)
 unfolding tau tauAt rounded
 tau-in v {T} t =
     divided-in v (≺-≼-trans (nat-pos (omega arith)) (short-down v 1 7 (one-few v) (≼-trans (nat-≼ (omega arith)) (t .cold))))

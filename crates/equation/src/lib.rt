@@ -15,6 +15,7 @@ pub use exponent::scale;
 pub use inputs::coefficient;
 pub use inputs::delta;
 pub use inputs::tau;
+pub use states::density_heat;
 pub use states::gibbs_gap_of;
 pub use states::pressure_gap_of;
 pub use states::pressure_of;

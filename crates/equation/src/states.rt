@@ -16,7 +16,7 @@ ghost use Rattle.equation.specs.Rules.{densityHeat, pressureFactor, stif
 ghost use Rattle.equation.specs.Ranged.{SumsIn, PressureIn};
 
 // (rho times R) times T
-fn density_heat(v: u64, t: f64, rho: f64) -> Bracket
+pub fn density_heat(v: u64, t: f64, rho: f64) -> Bracket
     requires { ⌜ Width v × T (acceptedTemperature widest t) × T (acceptedDensity widest rho) ⌝ }
     ensures { λ r. ⌜ r ≡ densityHeat (suc v) (exactOf t) (exactOf rho) ⌝ }
 {

@@ -97,6 +97,11 @@ module _ (v : ℕ) where
       → Each (Digited v l h) (ends (times (suc v) A B))
   times-sized p q a b = rounded-both (suc v) (λ up x k. round-sized up v k) (over-both _⊗_ (λ x y s t. ⊗-sized p q s t) a b)
 
+  pub divided-sized : {la ha lb hb l h : ℕ} {A B : Span} → l + hb ≤ la + bias → ha + bias ≤ h + lb → Each (Sized la ha) A → Each (Positive lb hb) B
+      → Each (Digited v l h) (ends (divided (suc v) A B))
+  divided-sized p q a b =
+      rounded-both (suc v) (λ up x k. round-sized up v k) (over-both _⊘_ (λ x y s t. ⊘-sized p q (t .above) s (t .sized)) a b)
+
   pub whole-times-summed : {g h : ℕ} (k n : ℕ) {B : Span} → n ≤ 2 ^ k → Each (Fine g h) B → Each (Summed v g (k + h)) (ends (times (suc v) (whole n) B))
   whole-times-summed {g} {h} k n p b =
       rounded-both (suc v) (λ up x s. round-summed up s)

@@ -43,7 +43,7 @@ refused-zeros (PressureGap ends) h = absurd (⊎-elim (λ k. omega (arith, k .1)
 refused-zeros (GibbsGap ends) h = absurd (⊎-elim (λ k. omega (arith, k .1)) (⊎-elim (λ k. omega (arith, k)) (λ k. omega (arith, k))) h)
 refused-zeros (Stiffness ends) h = absurd (⊎-elim (λ k. omega (arith, k .1)) (⊎-elim (λ k. omega (arith, k)) (λ k. omega (arith, k))) h)
 
-refusal-place : (why : Refusal) → (refusalNumber why ≡ 2 → ⊥) → refusalPlace why ≡ 0
+pub refusal-place : (why : Refusal) → (refusalNumber why ≡ 2 → ⊥) → refusalPlace why ≡ 0
 refusal-place Width h = refl
 refusal-place Kind h = refl
 refusal-place TableLength h = refl

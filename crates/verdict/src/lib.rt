@@ -9,6 +9,7 @@ pub mod pairs; // pairs.rt: the pair check
 pub mod sheets; // sheets.rt: the state sheet
 
 pub use densities::density_check;
+pub use handed::handed_out;
 pub use pairs::pair_check;
 pub use sheets::state_sheet;
 pub use widths::sound_width;

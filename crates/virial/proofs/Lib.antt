@@ -1,0 +1,10 @@
+-- The laws of the vapour card. Assumes nothing.
+pub mod Wider
+pub mod Ranges
+pub mod Covers
+pub mod Holds
+pub mod Cases
+pub mod Doubled
+pub mod Settled
+pub mod Demand1
+pub mod Demand2
