@@ -1,8 +1,9 @@
 // The calls of the bench panel, for C: one value of an answer at a width of 32 or 53 bits and for a kind of table, 38 or 58, by a choice.
 // The table's bytes are lent, and only read.
 // 0 the number, 1 the place, 2 to 5 the ends in order as f64 bits; anything that the answer does not have is 0.
-// `slice` has the same checks with a lent slice of terms, `typed` the calls on tables typed as text, `converted` those that turn one kind of
-// table into the other.
+// `slice` has the same checks with a lent slice of terms, `card` the vapour card, `typed` the calls on tables typed as text, `converted` those
+// that turn one kind of table into the other.
+mod card;
 mod converted;
 mod slice;
 mod typed;

@@ -5,6 +5,8 @@ use lib.Ieee.{Float, toBits, binary64}
 use Rattle.verdict.specs.declared.Answer.{Answer}
 use Rattle.verdict.specs.declared.SheetAnswer.{SheetAnswer}
 use Rattle.verdict.specs.Reading.{number, place, handed, sheetNumber, sheetPlace, sheetPressure, sheetStiffness}
+use Rattle.virial.specs.declared.Card.{Card}
+use Rattle.virial.specs.Reading.{cardNumber, cardPlace, cardSecond, cardThird, cardPressure}
 
 abbrev pub bits : Float → ℕ
 bits end = toBits binary64 end
@@ -20,4 +22,16 @@ sheetValues answer =
     ∷ bits (sheetPressure answer .upper)
     ∷ bits (sheetStiffness answer .lower)
     ∷ bits (sheetStiffness answer .upper)
+    ∷ []
+
+unfoldable pub cardValues : Card → List ℕ
+cardValues card =
+    cardNumber card
+    ∷ cardPlace card
+    ∷ bits (cardSecond card .lower)
+    ∷ bits (cardSecond card .upper)
+    ∷ bits (cardThird card .lower)
+    ∷ bits (cardThird card .upper)
+    ∷ bits (cardPressure card .lower)
+    ∷ bits (cardPressure card .upper)
     ∷ []
