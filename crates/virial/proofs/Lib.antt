@@ -1,5 +1,6 @@
 -- The laws of the vapour card. Assumes nothing.
 pub mod Wider
+pub mod Picked
 pub mod Ranges
 pub mod Covers
 pub mod Holds
