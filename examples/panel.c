@@ -1,17 +1,20 @@
 /* A small panel on the water bench: reads a table and proposals, and says of each plug in plain words what the pair
- * check answers.
+ * check answers; or says in a line what the vapour card has at a temperature and a density.
  *
  *   panel TERMS PROPOSALS [WIDTH [KIND]]
+ *   panel TERMS --card TEMPERATURE DENSITY [WIDTH]
  *
  * Built by 'rt staticlib panel' and, on x86-64, 'gcc -Iinclude -o panel examples/panel.c target/staticlib/libpanel.a';
  * 'tests/c examples/panel.c TERMS PROPOSALS' builds and runs it on either kind of machine.
  *
- * TERMS is a file of packed terms or, where its name ends in .txt, a table typed as text; PROPOSALS has five doubles for
- * each plug, most significant byte first: temperature, liquid, vapour, pressure tolerance, Gibbs tolerance, as the bench
- * program takes them.  WIDTH is 32, which stands where it is missing, or 53; KIND is 38, which stands where it is
+ * TERMS is a file of packed terms or, where its name ends in .txt, a table typed as text; PROPOSALS has five doubles
+ * for each plug, most significant byte first: temperature, liquid, vapour, pressure tolerance, Gibbs tolerance, as the
+ * bench program takes them.  WIDTH is 32, which stands where it is missing, or 53; KIND is 38, which stands where it is
  * missing, or 58, for twelve-byte terms.  Any other gets the answer that the library has for it.  A table typed as text
- * is lengthened for 58.  Ends with status 1 where a file can't be read or a typed table is refused. */
+ * is lengthened for 58.  The card takes nine-byte terms.  Ends with status 1 where a file can't be read or a typed
+ * table is refused. */
 #include <stdio.h>
+#include <stdlib.h>
 #include <string.h>
 
 #include "waterbench.h"
@@ -140,25 +143,89 @@ static void say(unsigned long count, const struct bench *b, struct plug p)
     printf("\n");
 }
 
+/* The card has the pair check's numbers, and limits of its own. */
+static const char *card_reason(uint64_t number)
+{
+    switch (number) {
+    case WB_TEMPERATURE:
+        return "the temperature is not between 273 and 1123 K";
+    case WB_DENSITY:
+        return "the density is not between 1/1024 and 55 kg/m3";
+    }
+    return reasons[number];
+}
+
+/* One end of the card. */
+static double card_end(const struct bench *b, double temperature, double density, uint64_t choice)
+{
+    return wb_double(wb_virial(b->width, b->table, b->length, temperature, density, choice));
+}
+
+static void say_card(const struct bench *b, double temperature, double density)
+{
+    uint64_t number = wb_virial(b->width, b->table, b->length, temperature, density, WB_NUMBER);
+    uint64_t place = wb_virial(b->width, b->table, b->length, temperature, density, WB_PLACE);
+
+    printf("vapour card (%.6g K, %.8g kg/m3): ", temperature, density);
+    if (number == WB_ACCEPTED) {
+        printf("B between %.17g and %.17g m3/kg, ", card_end(b, temperature, density, WB_B_LOWER),
+               card_end(b, temperature, density, WB_B_UPPER));
+        printf("C between %.17g and %.17g m6/kg2, ", card_end(b, temperature, density, WB_C_LOWER),
+               card_end(b, temperature, density, WB_C_UPPER));
+        printf("the polynomial's pressure between %.17g and %.17g Pa\n",
+               card_end(b, temperature, density, WB_CARD_LOWER), card_end(b, temperature, density, WB_CARD_UPPER));
+        return;
+    }
+    printf("refused, %u, %s", (unsigned)number, card_reason(number));
+    if (place != 0)
+        printf(" (term %lu)", (unsigned long)place);
+    printf("\n");
+}
+
+/* The table of the named file; 0 where it can't be read or is refused. */
+static int read_terms(struct bench *b, const char *name)
+{
+    FILE *terms = fopen(name, "rb");
+    int sound = terms != NULL;
+
+    if (!sound)
+        fprintf(stderr, "panel: %s can't be read\n", name);
+    else if (is_text(name))
+        sound = read_typed(b, terms);
+    else
+        b->length = fread(b->table, 1, sizeof b->table, terms);
+    if (terms != NULL)
+        fclose(terms);
+    return sound;
+}
+
 int main(int count, char **words)
 {
-    struct bench b;
+    struct bench b = {.width = WB_COARSE, .kind = WB_NINE_BYTES};
+    int card = count > 2 && strcmp(words[2], "--card") == 0;
     uint8_t bytes[BYTES];
     size_t got;
-    int files = count >= 3 && count <= 5;
-    FILE *terms = files ? fopen(words[1], "rb") : NULL;
-    FILE *proposals = files ? fopen(words[2], "rb") : NULL;
 
-    if (terms == NULL || proposals == NULL) {
-        fprintf(stderr, "usage: panel TERMS PROPOSALS [WIDTH [KIND]], two files that can be read, 32 or 53, "
-                        "and 38 or 58\n");
+    if (card ? count < 5 || count > 6 : count < 3 || count > 5) {
+        fprintf(stderr, "usage: panel TERMS PROPOSALS [WIDTH [KIND]], or panel TERMS --card TEMPERATURE DENSITY "
+                        "[WIDTH]; 32 or 53, and 38 or 58\n");
         return 1;
+    }
+    if (card) {
+        b.width = count > 5 ? width_of(words[5]) : WB_COARSE;
+        if (!read_terms(&b, words[1]))
+            return 1;
+        say_card(&b, strtod(words[3], NULL), strtod(words[4], NULL));
+        return 0;
     }
     b.width = count > 3 ? width_of(words[3]) : WB_COARSE;
     b.kind = count > 4 ? kind_of(words[4]) : WB_NINE_BYTES;
-    if (!is_text(words[1]))
-        b.length = fread(b.table, 1, sizeof b.table, terms);
-    else if (!read_typed(&b, terms))
+    FILE *proposals = fopen(words[2], "rb");
+    if (proposals == NULL) {
+        fprintf(stderr, "panel: %s can't be read\n", words[2]);
+        return 1;
+    }
+    if (!read_terms(&b, words[1]))
         return 1;
     for (unsigned long plug = 1; (got = fread(bytes, 1, BYTES, proposals)) != 0; plug++) {
         struct plug p;
@@ -173,7 +240,6 @@ int main(int count, char **words)
         p.gibbs_tolerance = read_double(bytes + 32);
         say(plug, &b, p);
     }
-    fclose(terms);
     fclose(proposals);
     return 0;
 }

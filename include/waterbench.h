@@ -1,21 +1,21 @@
 /* The water bench: three calls that check what a search for water's saturation pair proposes, the same three with a
- * slice of terms that is lent for the unpacked table, two calls that turn a table typed as text into packed terms and
- * back, and two that turn packed terms of one kind into the other.
+ * slice of terms that is lent for the unpacked table, a card for thin vapour, two calls that turn a table typed as text
+ * into packed terms and back, and two that turn packed terms of one kind into the other.
  *
  * Lend a table of packed terms, 1 to 64 of them, and give the numbers as doubles.  Any bytes and any doubles are
  * answered, NaN and infinities too; nothing has to be checked before a call, and no byte is written but in the slice
  * or the buffer that a call is lent for it.
  *
- * Each of the checks names its width first, the count of bits of the numbers that it works with: 32 (WB_COARSE)
- * or 53 (WB_FINE).  The rules are the same, and at either width the equation's own value lies between the ends; at 53
- * bits the ends are about a million times closer together, and a call takes longer.  Take 53 where a gauge is finer
- * than the 32-bit ends: in cold water the pressure gap of a pair is more than 1,000 Pa wide at 32 bits
+ * Each of the checks, and the card, names its width first, the count of bits of the numbers that it works with: 32
+ * (WB_COARSE) or 53 (WB_FINE).  The rules are the same, and at either width the equation's own value lies between the
+ * ends; at 53 bits the ends are about a million times closer together, and a call takes longer.  Take 53 where a gauge
+ * is finer than the 32-bit ends: in cold water the pressure gap of a pair is more than 1,000 Pa wide at 32 bits
  * (docs/TOLERANCES.md).  Where both are close enough, 32 is the quicker one.
  *
- * Behind the width each of them names the kind of its table: 38 (WB_NINE_BYTES) or 58 (WB_TWELVE_BYTES), after the 38-
- * and the 58-row table of the paper.  A term is the coefficient times delta^d times tau^t, with delta = density/322 and
- * tau = 647.14/T, and for c of 1 or more times the exponential of minus the factor times delta^c.  Its fields, most
- * significant bit first, and what each kind takes:
+ * Behind the width each of the checks names the kind of its table: 38 (WB_NINE_BYTES) or 58 (WB_TWELVE_BYTES), after
+ * the 38- and the 58-row table of the paper.  A term is the coefficient times delta^d times tau^t, with
+ * delta = density/322 and tau = 647.14/T, and for c of 1 or more times the exponential of minus the factor times
+ * delta^c.  Its fields, most significant bit first, and what each kind takes:
  *
  *                       WB_NINE_BYTES                  WB_TWELVE_BYTES
  *   c                   2 bits                         4 bits
@@ -35,6 +35,7 @@
  *   WB_PLACE   for a term of the table its place, for a row of a text its line, counted from 1; else 0
  *   WB_LOWER, WB_UPPER            the two ends, as the bits of a double: wb_double turns them into one
  *   WB_STIFFNESS_LOWER, .._UPPER  the state sheet's last two ends; the two checks have none
+ *   WB_B_LOWER to WB_CARD_UPPER   the vapour card's six ends
  *   WB_WRITTEN                    the four calls that write have no ends, but how many bytes they wrote
  * Any other choice, or a value that the answer does not have, gives 0.
  *
@@ -64,6 +65,12 @@ enum wb_choice {
     WB_UPPER = 3,
     WB_STIFFNESS_LOWER = 4,
     WB_STIFFNESS_UPPER = 5,
+    WB_B_LOWER = 2,
+    WB_B_UPPER = 3,
+    WB_C_LOWER = 4,
+    WB_C_UPPER = 5,
+    WB_CARD_LOWER = 6,
+    WB_CARD_UPPER = 7,
     WB_WRITTEN = 2
 };
 
@@ -71,8 +78,8 @@ enum wb_number {
     WB_ACCEPTED = 0,
     WB_TABLE_LENGTH = 1,    /* the table has no length of its kind (above) */
     WB_BROKEN_TERM = 2,     /* a term breaks a rule of its kind; WB_PLACE says which */
-    WB_TEMPERATURE = 3,     /* T is outside the kind's range; for wb_pair, not 273.16 to 1273 K */
-    WB_DENSITY = 4,         /* a density is outside the kind's range */
+    WB_TEMPERATURE = 3,     /* T is outside the kind's range; wb_pair: not 273.16 to 1273; wb_virial: not 273 to 1123 */
+    WB_DENSITY = 4,         /* a density is outside the kind's range; wb_virial: not 1/1024 to 55 kg/m3 */
     WB_TARGET = 5,          /* the target pressure is not 0 to the kind's 10^9 or 25 * 10^9 Pa */
     WB_TOLERANCE = 6,       /* a tolerance is not 0 to 10^6 */
     WB_SIDES = 7,           /* the liquid is not above 322 kg/m3, or the vapour not below */
@@ -140,6 +147,15 @@ uint64_t wb_pair_lent(uint64_t width, uint64_t kind, const uint8_t *table, size_
                       size_t terms_count, double temperature, double liquid, double vapour, double pressure_tolerance,
                       double gibbs_tolerance, uint64_t choice);
 
+/* The vapour card, for thin vapour: the second and the third virial coefficient at a temperature (K), and the pressure
+ * of their polynomial at a density (kg/m3), from a table of nine-byte terms; it names no kind.  With tau = 647.14/T
+ *   B is the sum of coefficient times tau^t over the terms with d = 1, divided by 322;
+ *   C is 2 times (that sum over d = 2, less that sum over d = 1 and c = 1), divided by 322 * 322;
+ *   the pressure is density * R * T * (1 + B * density + C * density^2), with R = 461.51805 J/(kg K).
+ * The ends are those of B (m3/kg), of C (m6/kg2) and of the pressure (Pa): WB_B_LOWER to WB_CARD_UPPER.  Each of the
+ * three lies between its ends; the pressure is the polynomial's and not the full equation's, which is wb_state's.
+ * T goes from 273 to 1123 K, the density from 1/1024 to 55 kg/m3.  Refusals: 19, 1 to 4, in this order; a refused card
+ * has zeros.  There is no ceiling, and so no 8. */
 uint64_t wb_virial(uint64_t width, const uint8_t *table, size_t table_bytes, double temperature, double density,
                    uint64_t choice);
 
