@@ -19,7 +19,6 @@ use Rattle.bracket.proofs.Operands.{given-whole}
 use Rattle.equation.specs.Rules.{tau}
 use Rattle.virial.specs.declared.Pick.{Pick}
 use Rattle.virial.specs.declared.Pick.the-variants.{First, Second, FirstDamped}
-use Rattle.virial.specs.declared.Coefficients.{Coefficients}
 use Rattle.virial.specs.Sums.{picks, addend, withTerm, sumFirst}
 use Rattle.virial.specs.Rules.{secondOf, criticalSquare, thirdOf, coefficients}
 

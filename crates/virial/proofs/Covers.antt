@@ -3,15 +3,14 @@ use Prim.Native.Nat.{ℕ, zero, suc}
 use native.Mathlib.Omega.{arith}
 use mathlib.Core.Bool.{Bool, true, false, cond}
 use mathlib.Core.List.{List}
-use Rattle.exact.specs.Fraction.{Fraction, nat, _⊕_, _⊗_, _≺_}
-use Rattle.exact.specs.Fraction.Order.{≼-trans, ≺-≼-trans}
+use Rattle.exact.specs.Fraction.{Fraction, nat, _⊕_, _⊗_}
 use Rattle.exact.specs.Fraction.Parts.{nat-pos}
 use Rattle.exact.specs.Series.{power as powerAt}
 use Rattle.term.specs.declared.Term.{Term}
 use Rattle.term.specs.Packed.{termAt, countTerms}
-use Rattle.bracket.specs.Span.{whole, _∈_}
+use Rattle.bracket.specs.Span.{_∈_}
 use Rattle.bracket.specs.declared.Bracket.{Bracket}
-use Rattle.bracket.specs.Rules.{ends, given, plus, times}
+use Rattle.bracket.specs.Rules.{ends, plus}
 use Rattle.bracket.proofs.Within.{in-point}
 use Rattle.bracket.proofs.Inclusion.{given-in, plus-in, minus-in, times-in, divided-in, power-in}
 use Rattle.equation.specs.Constants.{gasConstant, exactCoefficient}
@@ -21,7 +20,7 @@ use Rattle.equation.proofs.Covers.{tau-in}
 use Rattle.virial.specs.declared.Pick.{Pick}
 use Rattle.virial.specs.declared.Pick.the-variants.{First, Second, FirstDamped}
 use Rattle.virial.specs.Sums.{picks, addend, withTerm, sumFirst, sumOver}
-use Rattle.virial.specs.Rules.{secondOf, criticalSquare, thirdOf, coefficients, polynomial, pressureOf}
+use Rattle.virial.specs.Rules.{secondOf, thirdOf, coefficients, polynomial, pressureOf}
 use Rattle.virial.specs.Itself.{sumFirstAt, sumOverAt, secondAt, thirdAt, virialPressureAt}
 use Rattle.virial.proofs.Ranges.{square-above}
 

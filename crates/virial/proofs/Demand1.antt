@@ -6,12 +6,11 @@ use mathlib.Core.Path.{_≡_, refl, _∙_, ap}
 use mathlib.Core.Bool.{true, false}
 use mathlib.Core.List.{List}
 use mathlib.Core.Logic.{_↔_, Iff·trans}
-use lib.ListN.{length}
 use lib.Ieee.{Float}
 use Rattle.exact.specs.Fraction.{nat, parts}
 use Rattle.doubles.specs.Range.{Outside}
 use Rattle.doubles.proofs.Within.{outside}
-use Rattle.term.specs.Sound.{soundLength, soundTable, firstBroken}
+use Rattle.term.specs.Sound.{soundTable, firstBroken}
 use Rattle.verdict.specs.Reading.{zeros}
 use Rattle.verdict.specs.Steps.{FailsAt, AllPass}
 use Rattle.verdict.specs.Rules.{soundWidth}

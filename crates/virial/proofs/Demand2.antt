@@ -6,7 +6,6 @@ use mathlib.Core.Bool.{true}
 use mathlib.Core.List.{List}
 use lib.Dec.{T}
 use lib.Ieee.{Float}
-use Rattle.exact.specs.Fraction.{Fraction}
 use Rattle.sheet.specs.Range.{Width}
 use Rattle.doubles.specs.Double.{exactOf}
 use Rattle.term.specs.Sound.{soundTable}

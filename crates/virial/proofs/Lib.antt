@@ -6,6 +6,10 @@ pub mod Covers
 pub mod Holds
 pub mod Cases
 pub mod Doubled
+pub mod Near
+pub mod Weighed
+pub mod Thirds
+pub mod Limits
 pub mod Settled
 pub mod Demand1
 pub mod Demand2

@@ -1,6 +1,6 @@
 -- The range of the card's brackets, for every sound table and every input that a kind accepts, over the count of bits suc v. The numbers are
 -- the exponents n of 2^n between which the ends lie, zero aside. Assumes nothing.
-use Prim.Native.Nat.{ℕ, zero, suc, _+_, _-_, _*_, _^_, _≤_, _<_}
+use Prim.Native.Nat.{ℕ, zero, suc, _+_, _-_, _*_, _≤_, _<_}
 use native.Mathlib.Nat.{le-refl, one-mul}
 use native.Mathlib.Omega.{arith}
 use lib.Pow.{pow-add, pow-mono}
@@ -13,13 +13,11 @@ use Rattle.bracket.specs.declared.Bracket.{Bracket}
 use Rattle.bracket.specs.Span.{whole, Each}
 use Rattle.bracket.specs.Rules.{ends, given, plus, minus, times}
 use Rattle.measure.specs.Measure.{Fine, Digited}
-use Rattle.measure.proofs.Lift.{each-map}
-use Rattle.measure.proofs.Measure.{fine-in, nat-fine}
+use Rattle.measure.proofs.Measure.{nat-fine}
 use Rattle.measure.proofs.Sizes.{Summed, Positive, Plus, plus-positive, digits-sized, plus-sized, whole-positive, given-summed, times-plus, times-sized, divided-sized, whole-times-summed, plus-summed, minus-summed}
 use Rattle.equation.specs.Accepted.{Temperature, Density}
-use Rattle.equation.specs.Rules.{densityHeat}
 use Rattle.equation.proofs.Room.{room}
-use Rattle.equation.proofs.Weaker.{digits-in, digits-fine, summed-fine, summed-digits, summed-in}
+use Rattle.equation.proofs.Weaker.{digits-fine, summed-fine, summed-digits, summed-in}
 use Rattle.equation.proofs.Ranges.{density-plus, tau-powers-plus, coefficient-sized}
 use Rattle.equation.proofs.StatesRange.{densityHeat-plus}
 use Rattle.virial.specs.declared.Pick.{Pick}

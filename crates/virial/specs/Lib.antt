@@ -6,3 +6,4 @@ pub mod Itself
 pub mod Ranged
 pub mod Reading
 pub mod Answers
+pub mod Limits

@@ -1,8 +1,7 @@
 -- `virial::polynomial::third_of` meets its contract. Assumes nothing.
-use mathlib.Core.Path.{_≡_, refl, sym, ap, subst, _∙_}
+use mathlib.Core.Path.{_≡_, sym, ap, subst, _∙_}
 use Prim.Native.Nat.{ℕ, suc}
 use native.Mathlib.Omega.{arith}
-use borrow.Author.Needs.{needs}
 use Rattle.exact.specs.Fraction.{nat, _≺_}
 use Rattle.sheet.specs.Range.{Width}
 use Rattle.sheet.proofs.Live.{few-digits}

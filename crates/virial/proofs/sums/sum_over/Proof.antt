@@ -1,5 +1,5 @@
 -- `virial::sums::sum_over` meets its contract: after i turns the sum is that over the first i terms. Assumes nothing.
-use mathlib.Core.Path.{_≡_, sym, ap, _∙_}
+use mathlib.Core.Path.{_≡_, ap, _∙_}
 use Prim.Native.Nat.{ℕ, suc, _-_, _≤_}
 use native.Mathlib.Omega.{arith}
 use Rattle.term.specs.Packed.{termAt, countTerms}
