@@ -31,7 +31,7 @@ use Rattle.virial.specs.declared.Coefficients.{Coefficients}
 use Rattle.virial.specs.Sums.{picks, addend, withTerm, sumFirst}
 use Rattle.virial.specs.Rules.{secondOf, criticalSquare, thirdOf, coefficients, polynomial, pressureOf}
 use Rattle.virial.specs.Ranged.{SumIn, CoefficientsIn}
-use Rattle.virial.proofs.Ranges.{square-plus, addend-sized, plus-addend, sumFirst-summed, second-digits, apart-summed, twice-summed, third-digits, linear-digits, bend-digits, square-digits, one-linear-summed, polynomial-summed, pressure-digits}
+use Rattle.virial.proofs.Ranges.{square-plus, addend-sized, plus-addend, sumFirst-summed, second-digits, apart-summed, twice-summed, third-digits, linear-digits, bend-digits, bent-digits, one-linear-summed, polynomial-summed, pressure-digits}
 
 -- ---- the sums over a table's terms
 
@@ -112,6 +112,7 @@ module _ {v : ℕ} (x : Coefficients) (p : CoefficientsIn v x) {rho : Fraction} 
   pub across : Width v
   across = p .second .held .lo .width
 
+  -- B times rho; C times rho, and that times rho
   pub linear-held : Held v (times (suc v) (ends (x .second)) (ends (given (suc v) rho)))
   linear-held = let r = room in let w = across in combined-held across _⊗_ _ _ (omega arith) (omega arith) (linear-digits v (omega arith) x (p .second .each) (p .third .each) d)
 
@@ -119,7 +120,7 @@ module _ {v : ℕ} (x : Coefficients) (p : CoefficientsIn v x) {rho : Fraction} 
   bend-held = let r = room in let w = across in combined-held across _⊗_ _ _ (omega arith) (omega arith) (bend-digits v (omega arith) x (p .second .each) (p .third .each) d)
 
   pub bent-held : Held v (times (suc v) (ends (times (suc v) (ends (x .third)) (ends (given (suc v) rho)))) (ends (given (suc v) rho)))
-  bent-held = let r = room in let w = across in combined-held across _⊗_ _ _ (omega arith) (omega arith) (square-digits v (omega arith) x (p .second .each) (p .third .each) d)
+  bent-held = let r = room in let w = across in combined-held across _⊗_ _ _ (omega arith) (omega arith) (bent-digits v (omega arith) x (p .second .each) (p .third .each) d)
 
   pub one-linear-held : Held v (plus (suc v) (whole 1) (ends (times (suc v) (ends (x .second)) (ends (given (suc v) rho)))))
   one-linear-held =

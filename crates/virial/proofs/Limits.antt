@@ -167,40 +167,37 @@ module _ (N : ℕ) (level : 2 ≤ N) (table : List ℕ) (sound : soundTable 38 t
       let out = ≈-trans (≈-sym (⊗-⊘ (nat 1 ⊕ S) above)) (⊘-cong above (ring (var 0 :* var 1) (var 1 :* var 0) ((nat 1 ⊕ S) ∷ heat ∷ []) refl) (≈-refl heat)) in
       ⊘-cong some (≈-trans (ring (var 0) (num 1 :+ var 0 :- num 1) (S ∷ []) refl) (⊖-cong out (≈-refl (nat 1)))) (≈-refl rho)
 
-  once : inv rho ⊗ rho ≈ nat 1
-  once = inv-⊗ some
+  -- a factor 1 / rho is a division, and takes a factor rho out
+  by-rho : (x : Fraction) → inv rho ⊗ x ≈ x ⊘ rho
+  by-rho x = ≈-trans (ring (var 0 :* var 1) (var 1 :* var 0) (inv rho ∷ x ∷ []) refl) (≈-sym (⊘-is x rho))
+
+  out : (x : Fraction) → inv rho ⊗ (x ⊗ rho) ≈ x
+  out x =
+      ≈-trans (ring (var 0 :* (var 1 :* var 2)) (var 0 :* var 2 :* var 1) (inv rho ∷ x ∷ rho ∷ []) refl)
+      (≈-trans (⊗-cong (inv-⊗ some) (≈-refl x)) (ring (num 1 :* var 0) (var 0) (x ∷ []) refl))
+
+  near-by-rho : {e x y : Fraction} → Near (e ⊗ rho) x (y ⊗ rho) → Near e (x ⊘ rho) y
+  near-by-rho {e} {x} {y} n = near-resp (out e) (by-rho x) (out y) (near-times (inv rho) (≺→≼ (inv-pos rho)) n)
 
   -- less B, it lies within K rho^2 of C rho
   excess-near : Near (thirdRate table T ⊗ (rho ⊗ rho)) (excessAt N table T rho ⊖ secondAt table T) (thirdAt table T ⊗ rho)
   excess-near =
-      let r = inv rho in
       let K = thirdRate table T in
       let B = secondAt table T in
       let C = thirdAt table T in
-      near-resp (≈-refl _) (⊖-cong (≈-trans (ring (var 0 :* var 1) (var 1 :* var 0) (r ∷ S ∷ []) refl) (≈-trans (≈-sym (⊘-is S rho)) excess-is)) (≈-refl B))
-      (ring (var 1 :+ var 0 :- var 1) (var 0) (C ⊗ rho ∷ B ∷ []) refl)
+      near-resp (≈-refl _) (⊖-cong excess-is (≈-refl B)) (ring (var 1 :+ var 0 :- var 1) (var 0) (C ⊗ rho ∷ B ∷ []) refl)
       (near-less B
-      (near-resp
-      (≈-trans (ring (var 0 :* (var 1 :* (var 2 :* var 2 :* var 2))) (var 0 :* var 2 :* (var 1 :* (var 2 :* var 2))) (r ∷ K ∷ rho ∷ []) refl)
-      (≈-trans (⊗-cong once (≈-refl (K ⊗ (rho ⊗ rho)))) (ring (num 1 :* var 0) (var 0) (K ⊗ (rho ⊗ rho) ∷ []) refl)))
-      (≈-refl _)
-      (≈-trans (ring (var 0 :* (var 1 :* var 3 :+ var 2 :* var 3 :* var 3)) (var 0 :* var 3 :* (var 1 :+ var 2 :* var 3)) (r ∷ B ∷ C ∷ rho ∷ []) refl)
-      (≈-trans (⊗-cong once (≈-refl (B ⊕ C ⊗ rho))) (ring (num 1 :* var 0) (var 0) ((B ⊕ C ⊗ rho) ∷ []) refl)))
-      (near-times r (≺→≼ (inv-pos rho)) (sum-near N level table sound T (≺→≼ some) most))))
+      (near-by-rho
+      (near-resp (ring (var 0 :* (var 1 :* var 1 :* var 1)) (var 0 :* (var 1 :* var 1) :* var 1) (K ∷ rho ∷ []) refl) (≈-refl S)
+      (ring (var 0 :* var 2 :+ var 1 :* var 2 :* var 2) ((var 0 :+ var 1 :* var 2) :* var 2) (B ∷ C ∷ rho ∷ []) refl)
+      (sum-near N level table sound T (≺→≼ some) most))))
 
   -- C is the limit of what is left, by rho once more
   pub third-limit : absolute ((excessAt N table T rho ⊖ secondAt table T) ⊘ rho ⊖ thirdAt table T) ≼ thirdRate table T ⊗ rho
   third-limit =
-      let r = inv rho in
-      let K = thirdRate table T in
-      let C = thirdAt table T in
-      let x = excessAt N table T rho ⊖ secondAt table T in
       near-absolute
-      (near-resp
-      (≈-trans (ring (var 0 :* (var 1 :* (var 2 :* var 2))) (var 0 :* var 2 :* (var 1 :* var 2)) (r ∷ K ∷ rho ∷ []) refl) (≈-trans (⊗-cong once (≈-refl (K ⊗ rho))) (ring (num 1 :* var 0) (var 0) (K ⊗ rho ∷ []) refl)))
-      (≈-trans (ring (var 0 :* var 1) (var 1 :* var 0) (r ∷ x ∷ []) refl) (≈-sym (⊘-is x rho)))
-      (≈-trans (ring (var 0 :* (var 1 :* var 2)) (var 0 :* var 2 :* var 1) (r ∷ C ∷ rho ∷ []) refl) (≈-trans (⊗-cong once (≈-refl C)) (ring (num 1 :* var 0) (var 0) (C ∷ []) refl)))
-      (near-times r (≺→≼ (inv-pos rho)) excess-near))
+      (near-by-rho
+      (near-resp (ring (var 0 :* (var 1 :* var 1)) (var 0 :* var 1 :* var 1) (thirdRate table T ∷ rho ∷ []) refl) (≈-refl _) (≈-refl _) excess-near))
 
   -- B is the limit of p / (rho R T) - 1, by rho
   pub second-limit : absolute (excessAt N table T rho ⊖ secondAt table T) ≼ (absolute (thirdAt table T) ⊕ thirdRate table T ⊗ rho) ⊗ rho

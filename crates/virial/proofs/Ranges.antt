@@ -87,14 +87,15 @@ module _ (v : ℕ) where
 
     module _ (x : Coefficients) (p : Each (Digited v (bias - (189 + v)) (bias + 249)) (ends (x .second))) (q : Each (Digited v (bias - (198 + v)) (bias + 243)) (ends (x .third)))
         {rho : Fraction} (d : Density rho) where
+      -- B times rho; C times rho, and that times rho
       pub linear-digits : Each (Digited v (bias - (199 + v)) (bias + 261)) (ends (times (suc v) (ends (x .second)) (ends (given (suc v) rho))))
       linear-digits = let r = room in times-sized v (omega arith) (omega arith) (digits-sized p) (plus-sized (density-plus v d))
 
       pub bend-digits : Each (Digited v (bias - (208 + v)) (bias + 255)) (ends (times (suc v) (ends (x .third)) (ends (given (suc v) rho))))
       bend-digits = let r = room in times-sized v (omega arith) (omega arith) (digits-sized q) (plus-sized (density-plus v d))
 
-      pub square-digits : Each (Digited v (bias - (218 + v)) (bias + 267)) (ends (times (suc v) (ends (times (suc v) (ends (x .third)) (ends (given (suc v) rho)))) (ends (given (suc v) rho))))
-      square-digits = let r = room in times-sized v (omega arith) (omega arith) (digits-sized bend-digits) (plus-sized (density-plus v d))
+      pub bent-digits : Each (Digited v (bias - (218 + v)) (bias + 267)) (ends (times (suc v) (ends (times (suc v) (ends (x .third)) (ends (given (suc v) rho)))) (ends (given (suc v) rho))))
+      bent-digits = let r = room in times-sized v (omega arith) (omega arith) (digits-sized bend-digits) (plus-sized (density-plus v d))
 
       pub one-linear-summed : Each (Summed v (bias - (218 + 2 * v)) (bias + 262)) (ends (plus (suc v) (whole 1) (ends (times (suc v) (ends (x .second)) (ends (given (suc v) rho))))))
       one-linear-summed =
@@ -106,7 +107,7 @@ module _ (v : ℕ) where
       unfolding polynomial
       polynomial-summed =
           let r = room in
-          summed-in (omega arith) (plus-summed v {h = bias + 267} (summed-fine (omega arith) one-linear-summed) (digits-fine (omega arith) (le-refl (bias + 267)) square-digits))
+          summed-in (omega arith) (plus-summed v {h = bias + 267} (summed-fine (omega arith) one-linear-summed) (digits-fine (omega arith) (le-refl (bias + 267)) bent-digits))
 
       pub pressure-digits : {T : Fraction} → Temperature T → Each (Digited v (bias - (213 + 2 * v)) (bias + 300)) (ends (pressureOf (suc v) T rho x))
       unfolding pressureOf

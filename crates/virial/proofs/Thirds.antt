@@ -9,7 +9,7 @@ use lib.Dec.{eqb}
 use borrow.Author.Tests.{ne-eqb}
 use Rattle.exact.specs.Fraction.{Fraction, nat, _⊕_, _⊖_, _⊗_, _≼_, _≈_}
 use Rattle.exact.specs.Fraction.Order.{≼-refl, ≼-trans, ≈-refl, ≈-sym, ≈-trans, ≈-≼-trans, ≼-≈-trans, ≈→≼}
-use Rattle.exact.specs.Fraction.Sum.{⊕-mono-right, ⊕-cong, ⊖-cong, ⊖-≼-back, ≼-⊕-right}
+use Rattle.exact.specs.Fraction.Sum.{⊕-mono-right, ⊖-cong, ⊖-≼-back, ≼-⊕-right}
 use Rattle.exact.specs.Fraction.Product.{⊗-cong, ⊗-mono-left, ⊗-mono-right, ⊗-nonneg, ⊗-one}
 use Rattle.exact.specs.Fraction.Parts.{nat-≼, nat-nonneg, nat-⊕}
 use Rattle.exact.specs.Series.{power, expnegAt}
@@ -58,8 +58,12 @@ module _ {δ : Fraction} (some : nat 0 ≼ δ) (most : δ ≼ nat 1) where
   bound : nat 0 ≼ nat 18 ⊗ power δ 3
   bound = ⊗-nonneg (nat-nonneg 18) cube
 
+  -- what differs by at most that
+  abbrev pub Close : Fraction → Fraction → Type 0
+  Close x y = Near (nat 18 ⊗ power δ 3) x y
+
   -- ---- where E times w is at most d, and d at most r above it
-  by-rest : (P y r : Fraction) (d : ℕ) → nat 0 ≼ P → y ≼ nat d → nat d ≼ y ⊕ r → P ⊗ r ≼ nat 18 ⊗ power δ 3 → Near (nat 18 ⊗ power δ 3) (P ⊗ y) (P ⊗ nat d)
+  by-rest : (P y r : Fraction) (d : ℕ) → nat 0 ≼ P → y ≼ nat d → nat d ≼ y ⊕ r → P ⊗ r ≼ nat 18 ⊗ power δ 3 → Close (P ⊗ y) (P ⊗ nat d)
   by-rest P y r d p under over small =
       record {
         low =
@@ -76,44 +80,47 @@ module _ {δ : Fraction} (some : nat 0 ≼ δ) (most : δ ≼ nat 1) where
       abbrev y : Fraction
       y = expnegAt N g ⊗ (nat d ⊖ nat (suc c) ⊗ g)
 
-      q-most : nat d ⊕ nat (suc c) ≼ nat 18
+      abbrev q : Fraction
+      q = nat d ⊕ nat (suc c)
+
+      q-most : q ≼ nat 18
       q-most = ≈-≼-trans (≈-sym (nat-⊕ d (suc c))) (nat-≼ few)
 
-      q-some : nat 0 ≼ nat d ⊕ nat (suc c)
+      q-some : nat 0 ≼ q
       q-some = ≼-≈-trans (nat-nonneg (d + suc c)) (nat-⊕ d (suc c))
 
       g-some : nat 0 ≼ g
       g-some = power-nonneg some (suc c)
 
       -- g squared is at most g
-      squared : (nat d ⊕ nat (suc c)) ⊗ (g ⊗ g) ≼ (nat d ⊕ nat (suc c)) ⊗ g
+      squared : q ⊗ (g ⊗ g) ≼ q ⊗ g
       squared = ⊗-mono-right q-some (≼-≈-trans (⊗-mono-right g-some (power-most (suc c))) (⊗-one g))
 
       pub y-under : y ≼ nat d
       y-under =
           ≼-trans (weighed-high g-some (power-most (suc c)) N level d (suc c))
-          (≼-≈-trans (⊕-mono-right (nat d ⊖ (nat d ⊕ nat (suc c)) ⊗ g) squared) (ring (var 0 :- var 1 :+ var 1) (var 0) (nat d ∷ (nat d ⊕ nat (suc c)) ⊗ g ∷ []) refl))
+          (≼-≈-trans (⊕-mono-right (nat d ⊖ q ⊗ g) squared) (ring (var 0 :- var 1 :+ var 1) (var 0) (nat d ∷ q ⊗ g ∷ []) refl))
 
-      y-over : nat d ≼ y ⊕ (nat d ⊕ nat (suc c)) ⊗ g
-      y-over = ⊖-≼-back ((nat d ⊕ nat (suc c)) ⊗ g) (weighed-low g-some (power-most (suc c)) N level d (suc c))
+      y-over : nat d ≼ y ⊕ q ⊗ g
+      y-over = ⊖-≼-back (q ⊗ g) (weighed-low g-some (power-most (suc c)) N level d (suc c))
 
-      rest-small : 3 ≤ d + suc c → power δ d ⊗ ((nat d ⊕ nat (suc c)) ⊗ g) ≼ nat 18 ⊗ power δ 3
+      rest-small : 3 ≤ d + suc c → power δ d ⊗ (q ⊗ g) ≼ nat 18 ⊗ power δ 3
       rest-small three =
-          ≈-≼-trans (ring (var 0 :* (var 1 :* var 2)) (var 1 :* (var 0 :* var 2)) (power δ d ∷ (nat d ⊕ nat (suc c)) ∷ g ∷ []) refl)
-          (≈-≼-trans (⊗-cong (≈-refl (nat d ⊕ nat (suc c))) (≈-sym (power-add δ d (suc c))))
+          ≈-≼-trans (ring (var 0 :* (var 1 :* var 2)) (var 1 :* (var 0 :* var 2)) (power δ d ∷ q ∷ g ∷ []) refl)
+          (≈-≼-trans (⊗-cong (≈-refl q) (≈-sym (power-add δ d (suc c))))
           (≼-trans (⊗-mono-right q-some (power-falls 3 (d + suc c) three)) (⊗-mono-left cube q-most)))
 
-      pub plain-near : 3 ≤ d + suc c → Near (nat 18 ⊗ power δ 3) (power δ d ⊗ y) (power δ d ⊗ nat d)
-      plain-near three = by-rest (power δ d) y ((nat d ⊕ nat (suc c)) ⊗ g) d (power-nonneg some d) y-under y-over (rest-small three)
+      pub plain-near : 3 ≤ d + suc c → Close (power δ d ⊗ y) (power δ d ⊗ nat d)
+      plain-near three = by-rest (power δ d) y (q ⊗ g) d (power-nonneg some d) y-under y-over (rest-small three)
 
     -- ---- one d and c after the other
 
     -- without an exponential
-    none-near : (d : ℕ) → Near (nat 18 ⊗ power δ 3) (shape N d 0 δ) (power δ d ⊗ nat d)
+    none-near : (d : ℕ) → Close (shape N d 0 δ) (power δ d ⊗ nat d)
     unfolding plainEAt termWAt
     none-near d = near-same bound (ring (var 0 :* (num 1 :* var 1)) (var 0 :* var 1) (power δ d ∷ nat d ∷ []) refl)
 
-    some-near : (d c : ℕ) → d + suc c ≤ 18 → 3 ≤ d + suc c → Near (nat 18 ⊗ power δ 3) (shape N d (suc c) δ) (power δ d ⊗ nat d)
+    some-near : (d c : ℕ) → d + suc c ≤ 18 → 3 ≤ d + suc c → Close (shape N d (suc c) δ) (power δ d ⊗ nat d)
     unfolding plainEAt termWAt
     some-near d c few three = plain-near d c few three
 
@@ -134,25 +141,26 @@ module _ {δ : Fraction} (some : nat 0 ≼ δ) (most : δ ≼ nat 1) where
     no-part : nat 0 ≈ polynomialPart false false false δ
     no-part = ring (num 0) (num 0 :* var 0 :+ num 2 :* (num 0 :- num 0) :* (var 0 :* var 0)) (δ ∷ []) refl
 
+    damped-part : {P : Fraction} → P ≈ δ → P ⊗ (nat 1 ⊖ (nat 1 ⊕ nat 1) ⊗ P) ≈ polynomialPart true false true δ
+    damped-part e =
+        ≈-trans (⊗-cong e (⊖-cong (≈-refl (nat 1)) (⊗-cong (≈-refl (nat 1 ⊕ nat 1)) e)))
+        (ring (var 0 :* (num 1 :- (num 1 :+ num 1) :* var 0)) (num 1 :* var 0 :+ num 2 :* (num 0 :- num 1) :* (var 0 :* var 0)) (δ ∷ []) refl)
+
     -- d = 1 and c = 1: the polynomial takes the second order too
-    damped-near : Near (nat 18 ⊗ power δ 3) (shape N 1 1 δ) (polynomialPart true false true δ)
+    damped-near : Close (shape N 1 1 δ) (polynomialPart true false true δ)
     unfolding plainEAt termWAt
     damped-near =
-        near-resp (≈-refl _) (⊗-cong (≈-sym (power-one δ)) (≈-refl _)) (≈-refl _)
+        let P = power δ 1 in
+        let above = power-nonneg some 1 in
+        let two = nat 1 ⊕ nat 1 in
+        near-resp (≈-refl _) (≈-refl _) (damped-part (power-one δ))
         (record {
-          low =
-              ≼-trans
-              (≈-≼-trans (≈-trans (ring (num 1 :* var 0 :+ num 2 :* (num 0 :- num 1) :* (var 0 :* var 0)) (var 0 :* (num 1 :- (num 1 :+ num 1) :* var 0)) (δ ∷ []) refl) (⊗-cong (≈-refl δ) (⊖-cong (≈-refl (nat 1)) (⊗-cong (≈-refl (nat 1 ⊕ nat 1)) (≈-sym (power-one δ))))))
-              (⊗-mono-right some (weighed-low (power-nonneg some 1) (power-most 1) N level 1 1)))
-              (≼-⊕-right bound);
+          low = ≼-trans (⊗-mono-right above (weighed-low above (power-most 1) N level 1 1)) (≼-⊕-right bound);
           high =
-              ≼-trans (⊗-mono-right some (weighed-high (power-nonneg some 1) (power-most 1) N level 1 1))
-              (≈-≼-trans
-              (⊗-cong (≈-refl δ) (⊕-cong (⊖-cong (≈-refl (nat 1)) (⊗-cong (≈-refl (nat 1 ⊕ nat 1)) (power-one δ))) (⊗-cong (≈-refl (nat 1 ⊕ nat 1)) (⊗-cong (power-one δ) (power-one δ)))))
-              (≈-≼-trans
-              (ring (var 0 :* (num 1 :- (num 1 :+ num 1) :* var 0 :+ (num 1 :+ num 1) :* (var 0 :* var 0)))
-              (num 1 :* var 0 :+ num 2 :* (num 0 :- num 1) :* (var 0 :* var 0) :+ num 2 :* (var 0 :* var 0 :* var 0)) (δ ∷ []) refl)
-              (⊕-mono-right (polynomialPart true false true δ) (≈-≼-trans (⊗-cong (≈-refl (nat 2)) cube-is) (⊗-mono-left cube (nat-≼ (omega arith)))))));
+              ≼-trans (⊗-mono-right above (weighed-high above (power-most 1) N level 1 1))
+              (≈-≼-trans (ring (var 0 :* (num 1 :- var 1 :* var 0 :+ var 1 :* (var 0 :* var 0))) (var 0 :* (num 1 :- var 1 :* var 0) :+ var 1 :* (var 0 :* var 0 :* var 0)) (P ∷ two ∷ []) refl)
+              (⊕-mono-right (P ⊗ (nat 1 ⊖ two ⊗ P))
+              (≈-≼-trans (⊗-cong (≈-sym (nat-⊕ 1 1)) (≈-trans (⊗-cong (⊗-cong (power-one δ) (power-one δ)) (power-one δ)) cube-is)) (⊗-mono-left cube (nat-≼ (omega arith))))));
         })
 
     -- d of 3 or more: nothing of it is in the polynomial
@@ -161,14 +169,14 @@ module _ {δ : Fraction} (some : nat 0 ≼ δ) (most : δ ≼ nat 1) where
         ≼-trans (⊗-mono-left (nat-nonneg d) (power-falls 3 d three))
         (≼-≈-trans (⊗-mono-right cube (nat-≼ few)) (ring (var 0 :* num 18) (num 18 :* var 0) (power δ 3 ∷ []) refl))
 
-    over-near : {x : Fraction} (d : ℕ) → d ≤ 18 → 3 ≤ d → x ≼ power δ d ⊗ nat d → power δ d ⊗ nat d ≼ x ⊕ nat 18 ⊗ power δ 3 → Near (nat 18 ⊗ power δ 3) x (nat 0)
+    over-near : {x : Fraction} (d : ℕ) → d ≤ 18 → 3 ≤ d → x ≼ power δ d ⊗ nat d → power δ d ⊗ nat d ≼ x ⊕ nat 18 ⊗ power δ 3 → Close x (nat 0)
     over-near d few three under over =
         record {
           low = ≼-trans (⊗-nonneg (power-nonneg some d) (nat-nonneg d)) over;
           high = ≼-≈-trans (≼-trans under (under-cube d few three)) (ring (var 0) (num 0 :+ var 0) (nat 18 ⊗ power δ 3 ∷ []) refl);
         }
 
-    more-near : (d c : ℕ) → 3 ≤ d → d ≤ 15 → c ≤ 3 → Near (nat 18 ⊗ power δ 3) (shape N d c δ) (nat 0)
+    more-near : (d c : ℕ) → 3 ≤ d → d ≤ 15 → c ≤ 3 → Close (shape N d c δ) (nat 0)
     unfolding plainEAt termWAt
     more-near d zero three few least =
         over-near d (omega arith) three (≈→≼ (ring (var 0 :* (num 1 :* var 1)) (var 0 :* var 1) (power δ d ∷ nat d ∷ []) refl)) (none-near d .low)
@@ -176,7 +184,7 @@ module _ {δ : Fraction} (some : nat 0 ≼ δ) (most : δ ≼ nat 1) where
         over-near d (omega arith) three (⊗-mono-right (power-nonneg some d) (y-under d c (omega arith))) (some-near d c (omega arith) (omega arith) .low)
 
     -- ---- all of them
-    pub shape-near : (d c : ℕ) → 0 < d → d ≤ 15 → c ≤ 3 → Near (nat 18 ⊗ power δ 3) (shape N d c δ) (polynomialPart (eqb d 1) (eqb d 2) (eqb d 1 && eqb c 1) δ)
+    pub shape-near : (d c : ℕ) → 0 < d → d ≤ 15 → c ≤ 3 → Close (shape N d c δ) (polynomialPart (eqb d 1) (eqb d 2) (eqb d 1 && eqb c 1) δ)
     shape-near zero c above few least = absurd (omega arith)
     shape-near (suc zero) zero above few least = near-resp (≈-refl _) (≈-refl _) first-part (none-near 1)
     shape-near (suc zero) (suc zero) above few least = damped-near
