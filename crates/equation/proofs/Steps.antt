@@ -1,9 +1,14 @@
 -- How a proof of code follows a rule: results of calls put for the brackets that they equal. Assumes nothing.
-use mathlib.Core.Path.{_≡_, sym, subst, ap₂, _∙_}
-use Prim.Native.Nat.{ℕ}
+use mathlib.Core.Path.{_≡_, sym, subst, ap, ap₂, _∙_}
+use Prim.Native.Nat.{ℕ, suc, _^_, _<_}
+use Rattle.exact.specs.Fraction.{nat}
+use Rattle.sheet.specs.Range.{Width}
+use Rattle.sheet.proofs.Live.{few-digits}
 use Rattle.bracket.specs.declared.Bracket.{Bracket}
-use Rattle.bracket.specs.Rules.{ends, plus, minus, times, divided}
+use Rattle.bracket.specs.Span.{whole}
+use Rattle.bracket.specs.Rules.{ends, given, plus, minus, times, divided}
 use Rattle.bracket.specs.Held.{Held}
+use Rattle.bracket.proofs.Operands.{plus-whole, times-whole}
 use Rattle.term.specs.declared.Term.{Term}
 use Rattle.equation.specs.declared.Sums.{Sums}
 use Rattle.equation.specs.Rules.{gOf, factorE, termV, termW, addendsOf, addends}
@@ -23,6 +28,14 @@ module _ (w : ℕ) {a b c d r : Bracket} (p : a ≡ c) (q : b ≡ d) where
 
   pub divided-of : r ≡ divided w (ends a) (ends b) → r ≡ divided w (ends c) (ends d)
   divided-of e = e ∙ ap₂ (λ (x y : Bracket). divided w (ends x) (ends y)) p q
+
+-- the same with a whole number, for which the code has its bracket
+module _ {v : ℕ} (w : Width v) (n : ℕ) (few : n < 2 ^ 32) {a b d r : Bracket} (p : a ≡ given (suc v) (nat n)) (q : b ≡ d) where
+  pub whole-plus-of : r ≡ plus (suc v) (ends a) (ends b) → r ≡ plus (suc v) (whole n) (ends d)
+  whole-plus-of e = e ∙ plus-whole v n (few-digits w few) p (ends b) ∙ ap (λ (x : Bracket). plus (suc v) (whole n) (ends x)) q
+
+  pub whole-times-of : r ≡ times (suc v) (ends a) (ends b) → r ≡ times (suc v) (whole n) (ends d)
+  whole-times-of e = e ∙ times-whole v n (few-digits w few) p (ends b) ∙ ap (λ (x : Bracket). times (suc v) (whole n) (ends x)) q
 
 -- one term: g, E, V and w in turn
 pub addends-is : (w : ℕ) (term : Term) (a b : Bracket) {g e tv tw : Bracket} {r : Sums} → g ≡ gOf w (term .c) (term .factor) a → e ≡ factorE w (term .c) g

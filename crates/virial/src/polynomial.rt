@@ -45,7 +45,10 @@ pub fn coefficients_of(v: u64, table: &[u8], t: f64) -> Coefficients
     let damped = sum_over(v, Pick::FirstDamped, table, tau);
     let b = second_of(v, first);
     let c = third_of(v, second, damped);
-    Coefficients { second: b, third: c }
+    Coefficients {
+        second: b,
+        third: c,
+    }
 }
 
 // (1 + (B times rho)) + ((C times rho) times rho)

@@ -1,28 +1,27 @@
 -- `equation::states::stiffness_factor` meets its contract. Assumes nothing.
-use mathlib.Core.Path.{_≡_, refl, ap, _∙_}
+use mathlib.Core.Path.{_≡_, refl}
 use Prim.Native.Nat.{ℕ, suc}
 use native.Mathlib.Omega.{arith}
 use Rattle.exact.specs.Fraction.{nat}
 use Rattle.sheet.specs.Range.{Width}
-use Rattle.sheet.proofs.Live.{few-digits}
 use Rattle.bracket.specs.declared.Bracket.{Bracket}
 use Rattle.bracket.specs.Span.{whole}
 use Rattle.bracket.specs.Rules.{ends, given, plus, times}
-use Rattle.bracket.proofs.Operands.{whole-held, plus-whole, times-whole}
+use Rattle.bracket.proofs.Operands.{whole-held}
 use Rattle.equation.specs.declared.Sums.{Sums}
 use Rattle.equation.specs.Rules.{stiffnessFactor}
-use Rattle.equation.proofs.Steps.{held-is, plus-of}
+use Rattle.equation.proofs.Steps.{held-is, plus-of, whole-plus-of, whole-times-of}
 use Rattle.equation.proofs.HoldsStates.{twice-held, one-twice-held}
 use Rattle.equation.proofs.states.stiffness_factor.Statement.{statement}
 use Rattle.equation.proofs.states.stiffness_factor.Tie as tie
 
 -- 2 times S1, and 1 more
 twice-is : {v : ℕ} → Width v → (s : Sums) {two r : Bracket} → two ≡ given (suc v) (nat 2) → r ≡ times (suc v) (ends two) (ends (s .s1)) → r ≡ times (suc v) (whole 2) (ends (s .s1))
-twice-is {v} w s p e = e ∙ times-whole v 2 (few-digits w (omega arith)) p (ends (s .s1))
+twice-is w s p e = whole-times-of w 2 (omega arith) p refl e
 
 one-twice-is : {v : ℕ} → Width v → (s : Sums) {one two r t : Bracket} → one ≡ given (suc v) (nat 1) → two ≡ given (suc v) (nat 2) → r ≡ times (suc v) (ends two) (ends (s .s1))
     → t ≡ plus (suc v) (ends one) (ends r) → t ≡ plus (suc v) (whole 1) (ends (times (suc v) (whole 2) (ends (s .s1))))
-one-twice-is {v} w s {r = r} o p e f = f ∙ plus-whole v 1 (few-digits w (omega arith)) o (ends r) ∙ ap (λ (x : Bracket). plus (suc v) (whole 1) (ends x)) (twice-is w s p e)
+one-twice-is w s o p e f = whole-plus-of w 1 (omega arith) o (twice-is w s p e) f
 
 whole-requires : tie.Need-whole-requires
 whole-requires c κs = (c .pre .held .s0 .lo .width, omega arith)

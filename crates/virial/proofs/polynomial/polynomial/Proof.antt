@@ -1,16 +1,15 @@
 -- `virial::polynomial::polynomial` meets its contract. Assumes nothing.
-use mathlib.Core.Path.{_≡_, refl, ap, _∙_}
+use mathlib.Core.Path.{_≡_, refl}
 use Prim.Native.Nat.{ℕ, suc}
 use native.Mathlib.Omega.{arith}
 use Rattle.exact.specs.Fraction.{Fraction, nat}
 use Rattle.sheet.specs.Range.{Width}
-use Rattle.sheet.proofs.Live.{few-digits}
 use Rattle.bracket.specs.declared.Bracket.{Bracket}
 use Rattle.bracket.specs.Span.{whole}
 use Rattle.bracket.specs.Rules.{ends, given, plus, times}
-use Rattle.bracket.proofs.Operands.{whole-held, plus-whole}
+use Rattle.bracket.proofs.Operands.{whole-held}
 use Rattle.doubles.specs.Double.{exactOf}
-use Rattle.equation.proofs.Steps.{held-is, plus-of, times-of}
+use Rattle.equation.proofs.Steps.{held-is, plus-of, times-of, whole-plus-of}
 use Rattle.equation.proofs.Holds.{density-held}
 use Rattle.equation.proofs.Taken.{density-of, density-finite}
 use Rattle.virial.specs.Rules.{polynomial}
@@ -22,8 +21,7 @@ use Rattle.virial.proofs.polynomial.polynomial.Tie as tie
 one-linear-is : {v : ℕ} → Width v → (b : Bracket) (rho : Fraction) {one density linear r : Bracket} → one ≡ given (suc v) (nat 1) → density ≡ given (suc v) rho
     → linear ≡ times (suc v) (ends b) (ends density) → r ≡ plus (suc v) (ends one) (ends linear)
     → r ≡ plus (suc v) (whole 1) (ends (times (suc v) (ends b) (ends (given (suc v) rho))))
-one-linear-is {v} w b rho {linear = linear} o d l e =
-    e ∙ plus-whole v 1 (few-digits w (omega arith)) o (ends linear) ∙ ap (λ (x : Bracket). plus (suc v) (whole 1) (ends x)) (times-of (suc v) refl d l)
+one-linear-is {v} w b rho o d l e = whole-plus-of w 1 (omega arith) o (times-of (suc v) refl d l) e
 
 given-requires : tie.Need-given-requires
 given-requires c κs = (c .pre .1 .second .held .lo .width, density-finite (c .args .rho) (c .pre .0))

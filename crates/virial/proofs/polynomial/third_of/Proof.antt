@@ -1,15 +1,14 @@
 -- `virial::polynomial::third_of` meets its contract. Assumes nothing.
-use mathlib.Core.Path.{_≡_, sym, ap, subst, _∙_}
+use mathlib.Core.Path.{_≡_, sym, subst}
 use Prim.Native.Nat.{ℕ, suc}
 use native.Mathlib.Omega.{arith}
 use Rattle.exact.specs.Fraction.{nat, _≺_}
 use Rattle.sheet.specs.Range.{Width}
-use Rattle.sheet.proofs.Live.{few-digits}
 use Rattle.bracket.specs.declared.Bracket.{Bracket}
 use Rattle.bracket.specs.Span.{whole}
 use Rattle.bracket.specs.Rules.{ends, given, minus, times}
-use Rattle.bracket.proofs.Operands.{whole-held, times-whole}
-use Rattle.equation.proofs.Steps.{held-is, divided-of}
+use Rattle.bracket.proofs.Operands.{whole-held}
+use Rattle.equation.proofs.Steps.{held-is, divided-of, whole-times-of}
 use Rattle.virial.specs.Rules.{thirdOf}
 use Rattle.virial.proofs.Cases.{square-is}
 use Rattle.virial.proofs.Ranges.{square-above}
@@ -20,7 +19,7 @@ use Rattle.virial.proofs.polynomial.third_of.Tie as tie
 -- 2 times the sums apart
 twice-is : {v : ℕ} → Width v → (s d : Bracket) {apart two r : Bracket} → apart ≡ minus (suc v) (ends s) (ends d) → two ≡ given (suc v) (nat 2) → r ≡ times (suc v) (ends two) (ends apart)
     → r ≡ times (suc v) (whole 2) (ends (minus (suc v) (ends s) (ends d)))
-twice-is {v} w s d {apart = apart} a t e = e ∙ times-whole v 2 (few-digits w (omega arith)) t (ends apart) ∙ ap (λ (x : Bracket). times (suc v) (whole 2) (ends x)) a
+twice-is w s d a t e = whole-times-of w 2 (omega arith) t a e
 
 difference-requires : tie.Need-difference-requires
 difference-requires c κs = (c .pre .0 .held, c .pre .1 .held)
