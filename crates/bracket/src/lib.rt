@@ -15,7 +15,7 @@ use sheet::Sheet;
 pub use sums::{add_last, difference, stretched, sum};
 pub use values::{given, given_ratio, whole};
 
-#[derive(Drop)]
+#[derive(Clone, Copy)]
 pub struct Bracket {
     pub lo: Sheet,
     pub hi: Sheet,

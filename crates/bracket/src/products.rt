@@ -59,7 +59,7 @@ fn both_across(a: Bracket, b: Bracket) -> bool
 }
 
 // The ends that meet: p and q in the least product, r and s in the greatest.
-#[derive(Drop)]
+#[derive(Clone, Copy)]
 struct Meeting {
     p: Sheet,
     q: Sheet,

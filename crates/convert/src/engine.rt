@@ -9,7 +9,7 @@ use super::{Converted, form};
 use term::Table;
 
 // The terms packed anew: how many bytes they are, or the place of the first term that has no such form.
-#[derive(Drop)]
+#[derive(Clone, Copy)]
 pub enum Packed {
     Bytes(usize),
     Place(usize),

@@ -12,7 +12,7 @@ pub use values::converted_values;
 
 // What a conversion answers: the bytes written; 1; 2 with the place of the first broken term; 22 with the place of the first term that has no
 // old form; or 18, no room.
-#[derive(Drop)]
+#[derive(Clone, Copy)]
 pub enum Converted {
     Written(usize),
     WrongLength,

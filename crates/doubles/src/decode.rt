@@ -9,7 +9,7 @@ ghost use Rattle.doubles.specs.Decoded.{Decoded};
 use sheet::Sheet;
 
 // ± m * 2^e in units of 2^-262144, as a sheet number holds its place.
-#[derive(Drop)]
+#[derive(Clone, Copy)]
 pub struct ExactParts {
     pub neg: bool,
     pub m: u64,

@@ -9,7 +9,7 @@ ghost use Rattle.doubles.specs.Encoded.{Settled, Encodable};
 use sheet::{Found, Sheet};
 
 // m * 2^e in units of 2^-262144.
-#[derive(Drop)]
+#[derive(Clone, Copy)]
 pub struct Places {
     pub m: u64,
     pub e: u64,

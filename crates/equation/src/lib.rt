@@ -17,7 +17,7 @@ pub use states::{
 pub use table::{no_sums, sums_of};
 
 // The three sums over a table's terms, or one term's addends.
-#[derive(Drop)]
+#[derive(Clone, Copy)]
 pub struct Sums {
     pub s0: Bracket,
     pub s1: Bracket,

@@ -17,7 +17,7 @@ use sheet::Sheet;
 use term::Table;
 
 // A word of the input, or that none is left.
-#[derive(Drop)]
+#[derive(Clone, Copy)]
 enum Next {
     Word(u64),
     End,

@@ -12,7 +12,7 @@ pub use proposal::{Proposal, read_proposal};
 pub use word::{kind_of, width_of};
 
 // A line's bytes stand at the front; the others are 0. No line of five u64s is longer than 97 bytes.
-#[derive(Drop)]
+#[derive(Clone, Copy)]
 pub struct Line {
     pub bytes: [u8; 97],
     pub len: usize,

@@ -5,7 +5,7 @@ ghost use Rattle.std.specs.Float.{binary64};
 ghost use Rattle.line.specs.Proposal.{bytes_number, double_at, proposal_of};
 
 // T, the two densities, and the two tolerances.
-#[derive(Drop)]
+#[derive(Clone, Copy)]
 pub struct Proposal {
     pub temperature: f64,
     pub liquid: f64,

@@ -18,7 +18,7 @@ pub use own::{density_check, pair_check, state_sheet};
 pub use slice::ask;
 
 // What is asked: the state sheet; the density check with its target and tolerance; the pair check with its vapour and both tolerances.
-#[derive(Drop)]
+#[derive(Clone, Copy)]
 pub enum Question {
     Sheet(State),
     Density(State, f64, f64),
@@ -26,7 +26,7 @@ pub enum Question {
 }
 
 // What is replied: that the slice is too short, or what the plain engine answers.
-#[derive(Drop)]
+#[derive(Clone, Copy)]
 pub enum Reply {
     Short,
     Sheet(SheetAnswer),

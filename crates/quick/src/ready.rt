@@ -18,7 +18,7 @@ use sheet::Sheet;
 use term::Term;
 
 // A term, its coefficient and tau to the power t; `same` is the first place with its c and factor, `like` the first with its d too.
-#[derive(Drop)]
+#[derive(Clone, Copy)]
 pub struct Row {
     pub term: Term,
     pub coefficient: Bracket,
@@ -28,14 +28,14 @@ pub struct Row {
 }
 
 // The greatest t of some terms, and the greatest d or c.
-#[derive(Drop)]
+#[derive(Clone, Copy)]
 pub struct Reach {
     pub t: u64,
     pub d: u64,
 }
 
 // The rows at a temperature, and the highest power of delta that they need.
-#[derive(Drop)]
+#[derive(Clone, Copy)]
 pub struct Ready {
     pub t: f64,
     pub rows: [Row; 64],

@@ -13,7 +13,7 @@ pub use said::{row_of, term_of};
 pub use writer::put_row;
 
 // A row as it is typed: the coefficient is 0.D times ten to the `power` less 6, where D is the ten digits `ten`.
-#[derive(Drop)]
+#[derive(Clone, Copy)]
 pub struct Row {
     pub c: u64,
     pub d: u64,
@@ -24,7 +24,7 @@ pub struct Row {
 }
 
 // What stands at a place of a text: a row and the place behind it, or no row.
-#[derive(Drop)]
+#[derive(Clone, Copy)]
 pub enum Found {
     At(Row, usize),
     Bad,

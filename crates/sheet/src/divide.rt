@@ -10,7 +10,7 @@ use crate::Sheet;
 use crate::place::{topped, trimmed};
 
 // The digits of a quotient, and what is left over.
-#[derive(Drop)]
+#[derive(Clone, Copy)]
 struct Outcome {
     digits: u64,
     rest: u64,

@@ -9,7 +9,7 @@ use crate::Sheet;
 use crate::place::{lesser, rounded};
 
 // A long division on its way: the digits found, what is left over, and the place.
-#[derive(Drop)]
+#[derive(Clone, Copy)]
 pub struct Division {
     pub digits: u64,
     pub rest: u64,
@@ -59,7 +59,7 @@ fn long_division(v: u64, num: u64, den: u64, from: u64) -> Division
 }
 
 // A fraction's two roundings.
-#[derive(Drop)]
+#[derive(Clone, Copy)]
 pub struct Roundings {
     pub down: Sheet,
     pub up: Sheet,

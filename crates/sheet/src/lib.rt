@@ -18,7 +18,7 @@ pub use order::{at_most, negated};
 pub use place::{Found, normalised, rounded};
 
 // ± m · 2^e in units of 2^-262144; zero is { false, 0, 0 }
-#[derive(Drop)]
+#[derive(Clone, Copy)]
 pub struct Sheet {
     pub neg: bool,
     pub m: u64,

@@ -10,7 +10,7 @@ ghost use Rattle.sheet.specs.Steps.{Keeps, Ready, Movable, Moved, CutBy, Loose, 
 use crate::Sheet;
 
 // Digits so far, whether anything was cut below them, and their place.
-#[derive(Drop)]
+#[derive(Clone, Copy)]
 pub struct Found {
     pub m: u64,
     pub sticky: bool,

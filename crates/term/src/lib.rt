@@ -19,7 +19,7 @@ pub use sound::{sound_length, sound_term};
 // A term as its fields say: the exponential's factor is in hundredths, and the coefficient is `magnitude` units of ten to the minus 16, below
 // zero if `negative`. C lends slices of them.
 #[repr(C)]
-#[derive(Drop)]
+#[derive(Clone, Copy)]
 pub struct Term {
     pub c: u64,
     pub factor: u64,
@@ -30,7 +30,7 @@ pub struct Term {
 }
 
 // What the check of a table finds: its count of terms, a wrong length, or the place of the first broken term.
-#[derive(Drop)]
+#[derive(Clone, Copy)]
 pub enum Table {
     Sound(usize),
     Length,

@@ -10,7 +10,7 @@ pub use values::{read_values, write_values};
 pub use writing::write_text;
 
 // What reading a text answers: the bytes written; 16 with the line of the first bad row; or 18, no room.
-#[derive(Drop)]
+#[derive(Clone, Copy)]
 pub enum ReadAnswer {
     Read(usize),
     BadRow(usize),
@@ -19,7 +19,7 @@ pub enum ReadAnswer {
 
 // What writing a table as text answers: the bytes written; 1; 2 with the place of the first broken term; 17 with the place of the first
 // term that has no spelling; or 18, no room.
-#[derive(Drop)]
+#[derive(Clone, Copy)]
 pub enum WriteAnswer {
     Written(usize),
     WrongLength,

@@ -6,7 +6,7 @@ use super::ReadAnswer;
 use row::Found;
 
 // The rows of a text: the bytes of their terms, or the line of the first bad one.
-#[derive(Drop)]
+#[derive(Clone, Copy)]
 pub enum Checked {
     Bytes(usize),
     Line(usize),

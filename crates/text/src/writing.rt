@@ -9,7 +9,7 @@ use super::WriteAnswer;
 use term::Table;
 
 // The text of a table's terms: its length, or the place of the first term that has no spelling.
-#[derive(Drop)]
+#[derive(Clone, Copy)]
 pub enum Spelled {
     Text(usize),
     Place(usize),

@@ -15,21 +15,21 @@ pub use sheets::state_sheet;
 pub use widths::sound_width;
 
 // A state: temperature in K, density in kg/m3.
-#[derive(Drop)]
+#[derive(Clone, Copy)]
 pub struct State {
     pub temperature: f64,
     pub density: f64,
 }
 
 // A bracket as it is handed out.
-#[derive(Drop)]
+#[derive(Clone, Copy)]
 pub struct Ends {
     pub lower: f64,
     pub upper: f64,
 }
 
 // A refusal with no ends: the numbers 19 and 29, then 1 to 8. A broken term has its place, counted from 1.
-#[derive(Drop)]
+#[derive(Clone, Copy)]
 pub enum Refusal {
     Width,
     Kind,
@@ -44,14 +44,14 @@ pub enum Refusal {
 }
 
 // What the state sheet answers: the brackets of pressure and of stiffness.
-#[derive(Drop)]
+#[derive(Clone, Copy)]
 pub enum SheetAnswer {
     Answered(Ends, Ends),
     Refused(Refusal),
 }
 
 // What the density check and the pair check answer: accepted with a pressure, refused with nothing, or refused with what did not pass.
-#[derive(Drop)]
+#[derive(Clone, Copy)]
 pub enum Answer {
     Accepted(Ends),
     Refused(Refusal),

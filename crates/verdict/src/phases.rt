@@ -7,7 +7,7 @@ ghost use Rattle.verdict.specs.Handed.{Workable};
 use bracket::Bracket;
 use equation::Sums;
 
-#[derive(Drop)]
+#[derive(Clone, Copy)]
 pub struct Phase {
     pub sums: Sums,
     pub pressure: Bracket,

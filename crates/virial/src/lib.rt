@@ -11,7 +11,7 @@ mod cards; // cards.rt: the checks, and what is handed out
 pub use cards::vapour_card;
 
 // Which terms a sum runs over: those with d = 1, those with d = 2, and those with d = 1 and c = 1, which an exponential of minus delta damps.
-#[derive(Drop)]
+#[derive(Clone, Copy)]
 pub enum Pick {
     First,
     Second,
@@ -19,14 +19,14 @@ pub enum Pick {
 }
 
 // The two virial coefficients, B and C.
-#[derive(Drop)]
+#[derive(Clone, Copy)]
 pub struct Coefficients {
     pub second: Bracket,
     pub third: Bracket,
 }
 
 // What the vapour card answers: the brackets of B, of C and of the pressure.
-#[derive(Drop)]
+#[derive(Clone, Copy)]
 pub enum Card {
     Answered(Ends, Ends, Ends),
     Refused(Refusal),

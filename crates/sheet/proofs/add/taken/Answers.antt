@@ -1,0 +1,101 @@
+-- `sheet::add::taken` meets its contract. Assumes nothing.
+use mathlib.Core.Path.{◌≡◌, refl, sym, ◌∙◌, subst}
+use mathlib.Core.Bool.{Bool, true, false}
+use Prim.Native.Nat.{ℕ, ◌+◌, ◌-◌, ◌*◌, ◌^◌, ◌≤◌, ◌<◌}
+use native.Mathlib.Nat.{sub-zero}
+use native.Mathlib.Omega.{arith}
+use lib.Pow.{pow_pos}
+use Rattle.sheet.specs.declared.Sheet.{Sheet}
+use Rattle.sheet.specs.declared.place.Found.{Found}
+use Rattle.sheet.specs.Magnitude.{Place}
+use Rattle.sheet.specs.Range.{extent}
+use Rattle.sheet.specs.Steps.{Addends, Aligned, OneWhere}
+use Rattle.sheet.proofs.Addends.{pair, double, short}
+use Rattle.sheet.proofs.Sums.{place_take, place_take_rest}
+use Rattle.sheet.proofs.Operations.{sum_less}
+use Rattle.sheet.proofs.add.taken.Goals as goal
+
+-- the digits fit, and those left where something was cut are all there
+record Ranges (v : ℕ) (a : Sheet) (x : Found) : Type 0 where
+  twice : a.m * 2 < 2 ^ 54
+  below : x.m + 1 ≤ a.m * 2
+  full : x.sticky ≡ true → 2 ^ v ≤ a.m * 2 - x.m - 1
+  low : 200 ≤ a.e
+  high : a.e ≤ 400000
+
+ranges : (v : ℕ) (a b : Sheet) (x : Found) → Addends v a b → b.e < a.e → Aligned b.m b.e (a.e - 1) x → Ranges v a x
+ranges v a b x h l y =
+    let p = pair v a b h in
+    record {
+      twice = omega (arith, p.small, p.room);
+      below = omega (arith, p.full, p.small₂, y.small);
+      full = λ t. left p.full (short v b.m b.e (a.e - 1) x.m (omega arith) p.small₂ y.digits (subst (λ (s : Bool). Place x.m s (a.e - 1) (extent b) 1) t y.found));
+      low = p.low;
+      high = p.high;
+    }
+  where
+    left : 2 ^ v ≤ a.m → x.m < 2 ^ v → 2 ^ v ≤ a.m * 2 - x.m - 1
+    left f s = omega arith
+
+module _ (v : ℕ) (a b : Sheet) (x : Found) (h : Addends v a b) (l : b.e < a.e) (y : Aligned b.m b.e (a.e - 1) x) where
+  twice : a.m * 2 * 2 ^ (a.e - 1) ≡ extent a
+  twice = double a.m a.e (omega arith)
+
+  order : extent b ≤ a.m * 2 * 2 ^ (a.e - 1)
+  order = rw twice h.order
+
+  -- one more is taken where something was cut
+  left : (s : Bool) (k : ℕ) → x.sticky ≡ s → OneWhere s k → Place (a.m * 2 - x.m - k) s (a.e - 1) (extent a - extent b) 1
+  left true k t o =
+      rw (o.yes refl)
+      (subst (λ (n : ℕ). Place (a.m * 2 - x.m - 1) true (a.e - 1) (n - extent b) 1) twice
+      (place_take_rest (a.m * 2) x.m (a.e - 1) (extent b) order (subst (λ (s : Bool). Place x.m s (a.e - 1) (extent b) 1) t y.found)))
+  left false k t o =
+      rw (o.no refl, sub-zero)
+      (subst (λ (n : ℕ). Place (a.m * 2 - x.m) false (a.e - 1) (n - extent b) 1) twice
+      (place_take (a.m * 2) x.m (a.e - 1) (extent b) order (subst (λ (s : Bool). Place x.m s (a.e - 1) (extent b) 1) t y.found)))
+
+-- no more than one
+at_most_one : (s : Bool) (k : ℕ) → OneWhere s k → k ≤ 1
+at_most_one true k o = let e = o.yes refl in omega arith
+at_most_one false k o = let e = o.no refl in omega arith
+
+-- and something is left
+some_left : (v : ℕ) (s : Bool) (d k : ℕ) → OneWhere s k → 0 < d → (s ≡ true → 2 ^ v ≤ d - 1) → 0 < d - k
+some_left v true d k o p f = let e = o.yes refl in omega (arith, f refl, pow_pos v)
+some_left v false d k o p f = let e = o.no refl in omega arith
+
+pub aligned-x-requires : goal.aligned-x-requires
+aligned-x-requires c = (c.requires.0.some, omega (arith, c.requires.2))
+
+at : (c : goal.After-one_where-more) → Ranges c.args.v c.args.a c.aligned-x.result
+at c =
+    ranges c.args.v c.args.a c.args.b c.aligned-x.result c.requires.0 c.requires.2 c.aligned-x.ensures
+
+pub overflow_mul-am : goal.overflow_mul-am
+overflow_mul-am c = omega (arith, (at c).twice)
+
+pub overflow_sub-am : goal.overflow_sub-am
+overflow_sub-am c = omega (arith, (at c).below)
+
+pub overflow_sub-am-2 : goal.overflow_sub-am-2
+overflow_sub-am-2 c = omega (arith, (at c).below, at_most_one _ _ c.one_where-more.ensures)
+
+pub topped-requires : goal.topped-requires
+topped-requires c =
+    let r = at c in
+    let o = c.one_where-more.ensures in (
+      c.requires.0.first.width,
+      record { full = λ t _. let k = o.yes t in omega (arith, r.full t); room = omega (arith, r.high) },
+      some_left c.args.v c.aligned-x.result.sticky (c.args.a.m * 2 - c.aligned-x.result.m) _ o (omega (arith, r.below)) r.full,
+      omega (arith, r.low),
+    )
+
+pub returns : goal.returns
+returns c =
+    let k = c.args in
+    let h = c.requires in
+    let x = c.aligned-x in
+    c.topped.ensures (extent k.a - extent k.b) 1
+    (left k.v k.a k.b x.result h.0 h.2 x.ensures x.result.sticky c.one_where-more.result refl c.one_where-more.ensures)
+    ∙ sym (sum_less k.up k.v k.a k.b h.1 h.0.order)
