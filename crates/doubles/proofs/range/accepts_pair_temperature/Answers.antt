@@ -6,21 +6,16 @@ use Rattle.exact.specs.Fraction.{nat, parts, leq}
 use Rattle.doubles.specs.Double.{exact_of}
 use Rattle.doubles.specs.Range.{within}
 use Rattle.doubles.proofs.Neighbours.{limit_decided}
-use Rattle.doubles.proofs.range.accepts_pair_temperature.Statement.{statement}
-use Rattle.doubles.proofs.range.accepts_pair_temperature.Tie as tie
+use Rattle.doubles.proofs.range.accepts_pair_temperature.Goals as goal
 
-lies-within-requires : tie.Need-lies-within-requires
+pub lies_within-requires : goal.lies_within-requires
 unfolding of_bits
-lies-within-requires c κs = (tt, tt)
+lies_within-requires c = record { low_finite = tt; high_finite = tt }
 
-returns : tie.Need-returns
+pub returns : goal.returns
 returns c =
-    let start = c.before in
     c.lies_within.ensures
     ∙ limit_decided _ 27316 100
     (record { plain = lit≤ tt; leading = lit≤ tt; number = lit≤ tt; inner = lit≤ tt; divisor = lit≤ tt; over = lit≤ tt; under = lit≤ tt })
-    _ start.args.t (subst T (sym start.well-formed.0.1) tt)
+    _ c.args.t (subst T (sym c.well_formed.0.1) tt)
     ∙ unfold of_bits exact_of nat parts leq within in refl
-
-pub accepts-pair-temperature-spec : {M : Type 1} → statement M
-accepts-pair-temperature-spec = tie.close (tie.spec lies-within-requires returns)
