@@ -1,6 +1,8 @@
 // Brackets of two sheet numbers of 32 or 53 bits (01, "Sheet numbers and brackets"; 02 d): given values, the four operations, powers, the
 // last addend of a series once more, and an upper end so many sheet numbers on. A function is told v, one less than the count of bits. Every
 // function's contract is the rule itself. Assumes nothing.
+#![tactic(auto)]
+
 mod values; // values.rt: given values and whole numbers
 mod picked; // picked.rt: one end of a bracket
 mod sums; // sums.rt: sum, difference, the last addend once more, the upper end further on

@@ -1,16 +1,14 @@
 -- The limits of the inputs by kind: what an input keeps to that any kind accepts, and that the widest kind accepts it too. Assumes nothing.
 use Prim.Native.Nat.{ℕ, ◌*◌, ◌^◌}
 use mathlib.Core.Bool.{false}
-use native.Mathlib.Omega.{arith}
 use lib.Dec.{T}
 use lib.Ieee.{Float}
 use Rattle.kind.specs.Kind.{by_kind, widest, coldest, densest, highest}
-use Rattle.kind.proofs.Either.{cold-widest, dense_widest, high_widest, by_either}
-use Rattle.exact.specs.Fraction.{nat, parts, ◌≼◌}
-use Rattle.exact.specs.Fraction.Order.{≼_refl, ≼_trans}
-use Rattle.exact.specs.Fraction.Parts.{nat-≼, parts-nat, parts-≼}
-use Rattle.doubles.specs.Double.{exact_of}
-use Rattle.doubles.specs.Range.{accepted_temperature, accepted_pair_temperature, accepted_density, accepted_target}
+use Rattle.kind.proofs.Either.{cold-widest, dense_widest, high_widest}
+use Rattle.exact.specs.Fraction.{nat, parts}
+use Rattle.exact.specs.Fraction.Order.{≼_refl}
+use Rattle.exact.specs.Fraction.Parts.{nat-≼}
+use Rattle.doubles.specs.Range.{accepted_temperature, accepted_density, accepted_target}
 use Rattle.doubles.proofs.Within.{Inside, inside, from_wider}
 
 -- ---- the widest kind

@@ -8,8 +8,8 @@ ghost use Rattle.doubles.specs.Range.{within, accepted_temperature, accepted_pai
 
 // Whether x, any f64, is finite and from low to high, ends included.
 pub fn lies_within(x: f64, low: f64, high: f64) -> bool
-    requires t { T (finite low) }
-    requires t_2 { T (finite high) }
+    requires low_finite { T (finite low) }
+    requires high_finite { T (finite high) }
     ensures { result ≡ within (exact_of low) (exact_of high) x }
 {
     if low <= x { x <= high } else { false }
@@ -61,16 +61,16 @@ pub fn accepts_tolerance(x: f64) -> bool
 }
 
 pub fn at_most(x: f64, y: f64) -> bool
-    requires t { T (finite x) }
-    requires t_2 { T (finite y) }
+    requires x_finite { T (finite x) }
+    requires y_finite { T (finite y) }
     ensures { result ≡ leq (exact_of x) (exact_of y) }
 {
     x <= y
 }
 
 pub fn above(x: f64, y: f64) -> bool
-    requires t { T (finite x) }
-    requires t_2 { T (finite y) }
+    requires x_finite { T (finite x) }
+    requires y_finite { T (finite y) }
     ensures { result ≡ not (leq (exact_of x) (exact_of y)) }
 {
     x > y
@@ -112,9 +112,9 @@ pub fn above_pressure_limit(kind: u64, x: f64) -> bool
 
 // A gap's two ends against its tolerance.
 pub fn passes(lower: f64, upper: f64, tolerance: f64) -> bool
-    requires t { T (finite lower) }
-    requires t_2 { T (finite upper) }
-    requires t_3 { T (finite tolerance) }
+    requires lower_finite { T (finite lower) }
+    requires upper_finite { T (finite upper) }
+    requires tolerance_finite { T (finite tolerance) }
     ensures { result ≡ within_tolerance (exact_of lower) (exact_of upper) (exact_of tolerance) }
 {
     let least = -tolerance;

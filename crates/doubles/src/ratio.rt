@@ -8,9 +8,9 @@ ghost use Rattle.doubles.specs.Ratio.{ratio_exponent};
 
 // Doubling an f64 in this range is exact. Densities of either kind are taken.
 pub fn ratio_exponent(liquid: f64, vapour: f64) -> u64
-    requires t { T (accepted_density widest liquid) }
-    requires t_2 { T (accepted_density widest vapour) }
-    requires t_3 { T (leq (exact_of vapour) (exact_of liquid)) }
+    requires liquid_accepted { T (accepted_density widest liquid) }
+    requires vapour_accepted { T (accepted_density widest vapour) }
+    requires in_order { T (leq (exact_of vapour) (exact_of liquid)) }
     ensures { result ≡ ratio_exponent (exact_of liquid) (exact_of vapour) }
 {
     let mut v = vapour;

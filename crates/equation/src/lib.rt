@@ -1,5 +1,7 @@
 // The equation by the step rules of documents 01 and 02 (h) at 32 or 53 bits: the three sums over a table's terms in one pass, and pressure, stiffness,
 // Gibbs gap and the gaps of pressure by them. Every function's contract is the rule itself. Nothing here writes to the lent bytes.
+#![tactic(auto)]
+
 use bracket::Bracket;
 
 mod inputs; // inputs.rt: delta, tau, coefficient, R times T

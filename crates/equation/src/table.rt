@@ -45,7 +45,7 @@ fn add_term(
     tau: Bracket,
     s: Sums,
 ) -> Sums
-    requires table_value { (sound_table kind table.now ≡ true) × (k < count_terms kind table.now) }
+    requires table_sound { (sound_table kind table.now ≡ true) × (k < count_terms kind table.now) }
     requires delta_in { DeltaIn v delta × TauIn v tau × AllHeld v s }
     ensures { result ≡ plus_each (suc v) s (addends (suc v) (term_at kind table.now k) delta tau) }
 {
@@ -55,7 +55,7 @@ fn add_term(
 }
 
 pub fn sums_of(v: u64, kind: u64, table: &[u8], t: f64, rho: f64) -> Sums
-    requires table_value { sound_table kind table.now ≡ true }
+    requires table_sound { sound_table kind table.now ≡ true }
     requires width { Width v × T (accepted_temperature widest t) × T (accepted_density widest rho) }
     ensures { result ≡ sums (suc v) kind table.now (exact_of t) (exact_of rho) }
 {

@@ -1,1 +1,3 @@
+#![tactic(auto)]
+
 // Exact fractions are definitions and laws; there is nothing to run.

@@ -1,4 +1,6 @@
 // The kinds of table: which there are, and how long their packed terms are. The limits of the inputs by kind stand in specs/Kind.antt too.
+#![tactic(auto)]
+
 ghost use Rattle.std.specs.Prelude.{◌≡◌};
 ghost use Rattle.kind.specs.Kind.{sound_kind, term_bytes};
 

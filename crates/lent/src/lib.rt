@@ -1,4 +1,6 @@
 // Bytes put into a lent buffer: a piece at a place, and a front where there is room for it. All other bytes stay.
+#![tactic(auto)]
+
 ghost use Rattle.std.specs.Prelude.{◌+◌, ◌≤◌, length, take};
 ghost use Rattle.lent.specs.Put.{Put};
 ghost use Rattle.lent.specs.Front.{Delivered};

@@ -1,1 +1,2 @@
 // How large numbers are and how fine: definitions and laws; there is nothing to run.
+#![tactic(auto)]

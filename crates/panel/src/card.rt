@@ -9,7 +9,7 @@ use verdict::State;
 #[unsafe(no_mangle)]
 pub extern "C" fn wb_virial(width: u64, table: &[u8], t: f64, rho: f64, choice: u64) -> u64
     ensures value { result ≡ card_chosen (card_answer width table.now t rho) choice }
-    ensures table_value { table.now ≡ table.now }
+    ensures table_stays { table.exit.now ≡ table.entry.now }
 {
     let state = State {
         temperature: t,

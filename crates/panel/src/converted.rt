@@ -18,7 +18,7 @@ fn chosen(answer: Converted, choice: u64) -> u64
 #[unsafe(no_mangle)]
 pub extern "C" fn wb_lengthen(table: &[u8], out: &mut [u8], choice: u64) -> u64
     ensures convert_called { ConvertCalled 38 58 table.now out.old out.new choice result }
-    ensures table_value { table.now ≡ table.now }
+    ensures table_stays { table.exit.now ≡ table.entry.now }
 {
     chosen(convert::lengthen(table, out), choice)
 }
@@ -27,7 +27,7 @@ pub extern "C" fn wb_lengthen(table: &[u8], out: &mut [u8], choice: u64) -> u64
 #[unsafe(no_mangle)]
 pub extern "C" fn wb_shorten(table: &[u8], out: &mut [u8], choice: u64) -> u64
     ensures convert_called { ConvertCalled 58 38 table.now out.old out.new choice result }
-    ensures table_value { table.now ≡ table.now }
+    ensures table_stays { table.exit.now ≡ table.entry.now }
 {
     chosen(convert::shorten(table, out), choice)
 }

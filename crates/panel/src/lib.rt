@@ -3,6 +3,8 @@
 // 0 the number, 1 the place, 2 to 5 the ends in order as f64 bits; anything that the answer does not have is 0.
 // `slice` has the same checks with a lent slice of terms, `card` the vapour card, `typed` the calls on tables typed as text, `converted` those
 // that turn one kind of table into the other.
+#![tactic(auto)]
+
 mod card;
 mod converted;
 mod slice;
@@ -25,7 +27,7 @@ pub extern "C" fn wb_state(
     choice: u64,
 ) -> u64
     ensures value { result ≡ sheet_chosen (state_answer width kind table.now t rho) choice }
-    ensures table_value { table.now ≡ table.now }
+    ensures table_stays { table.exit.now ≡ table.entry.now }
 {
     let state = State {
         temperature: t,
@@ -48,7 +50,7 @@ pub extern "C" fn wb_density(
     choice: u64,
 ) -> u64
     ensures value { result ≡ chosen (density_answer width kind table.now t rho target tolerance) choice }
-    ensures table_value { table.now ≡ table.now }
+    ensures table_stays { table.exit.now ≡ table.entry.now }
 {
     let state = State {
         temperature: t,
@@ -73,7 +75,7 @@ pub extern "C" fn wb_pair(
     choice: u64,
 ) -> u64
     ensures value { result ≡ chosen (pair_answer width kind table.now t liquid vapour pressure_tolerance gibbs_tolerance) choice }
-    ensures table_value { table.now ≡ table.now }
+    ensures table_stays { table.exit.now ≡ table.entry.now }
 {
     let state = State {
         temperature: t,

@@ -77,7 +77,7 @@ pub extern "C" fn wb_state_lent(
     choice: u64,
 ) -> u64
     ensures lent_called { LentCalled width kind table.now terms.old terms.new (Sheet (record { temperature = t; density = rho })) choice result }
-    ensures table_value { table.now ≡ table.now }
+    ensures table_stays { table.exit.now ≡ table.entry.now }
 {
     let question = sheet_question(t, rho);
     let reply = quick::ask(width, kind, table, terms, question);
@@ -98,7 +98,7 @@ pub extern "C" fn wb_density_lent(
     choice: u64,
 ) -> u64
     ensures lent_called { LentCalled width kind table.now terms.old terms.new (Density (record { temperature = t; density = rho }) target tolerance) choice result }
-    ensures table_value { table.now ≡ table.now }
+    ensures table_stays { table.exit.now ≡ table.entry.now }
 {
     let question = density_question(t, rho, target, tolerance);
     let reply = quick::ask(width, kind, table, terms, question);
@@ -120,7 +120,7 @@ pub extern "C" fn wb_pair_lent(
     choice: u64,
 ) -> u64
     ensures lent_called { LentCalled width kind table.now terms.old terms.new (Pair (record { temperature = t; density = liquid }) vapour pressure_tolerance gibbs_tolerance) choice result }
-    ensures table_value { table.now ≡ table.now }
+    ensures table_stays { table.exit.now ≡ table.entry.now }
 {
     let question = pair_question(t, liquid, vapour, pressure_tolerance, gibbs_tolerance);
     let reply = quick::ask(width, kind, table, terms, question);

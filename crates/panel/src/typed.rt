@@ -7,7 +7,7 @@ ghost use Rattle.panel.specs.Typed.{ReadCalled, WriteCalled};
 #[unsafe(no_mangle)]
 pub extern "C" fn wb_read_text(text: &[u8], out: &mut [u8], choice: u64) -> u64
     ensures read_called { ReadCalled text.now out.old out.new choice result }
-    ensures text_value { text.now ≡ text.now }
+    ensures text_stays { text.exit.now ≡ text.entry.now }
 {
     let read = text::read_values(text::read_text(text, out));
     super::at(&read, choice)
@@ -17,7 +17,7 @@ pub extern "C" fn wb_read_text(text: &[u8], out: &mut [u8], choice: u64) -> u64
 #[unsafe(no_mangle)]
 pub extern "C" fn wb_write_text(table: &[u8], out: &mut [u8], choice: u64) -> u64
     ensures write_called { WriteCalled table.now out.old out.new choice result }
-    ensures table_value { table.now ≡ table.now }
+    ensures table_stays { table.exit.now ≡ table.entry.now }
 {
     let written = text::write_values(text::write_text(table, out));
     super::at(&written, choice)

@@ -2,6 +2,8 @@
 // here. They are a crate of their own, because the compiler puts a function into its caller where it has only one: beside the loops of
 // `marks` the exponential would be a function by itself, and both would be slower. The table's bytes are lent, and only read.
 // A choice is the panel's: 0 the number, 1 the place, 2 to 5 the ends in order as f64 bits; anything that the answer does not have is 0.
+#![tactic(auto)]
+
 ghost use Rattle.std.specs.Prelude.{◌≡◌, get_or};
 ghost use Rattle.verdict.specs.Rules.{state_answer, pair_answer};
 ghost use Rattle.reading.specs.Values.{check_values, sheet_values};
@@ -18,7 +20,7 @@ pub extern "C" fn mark_plain_state(
     choice: u64,
 ) -> u64
     ensures value { result ≡ get_or (sheet_values (state_answer width kind table.now t rho)) choice 0 }
-    ensures table_value { table.now ≡ table.now }
+    ensures table_stays { table.exit.now ≡ table.entry.now }
 {
     let state = State {
         temperature: t,
@@ -41,7 +43,7 @@ pub extern "C" fn mark_plain_pair(
     choice: u64,
 ) -> u64
     ensures value { result ≡ get_or (check_values (pair_answer width kind table.now t liquid vapour pressure_tolerance gibbs_tolerance)) choice 0 }
-    ensures table_value { table.now ≡ table.now }
+    ensures table_stays { table.exit.now ≡ table.entry.now }
 {
     let state = State {
         temperature: t,

@@ -1,6 +1,8 @@
 // The quick engine (document 02, e): the same answers as `verdict`, with the table unpacked once into a slice of terms that the caller lends,
 // and each different exponential, each power and each coefficient taken once. Number 20 is a slice that holds fewer terms than the table.
 // Nothing here writes to the lent table.
+#![tactic(auto)]
+
 use verdict::{Answer, SheetAnswer, State};
 
 mod unpacked; // unpacked.rt: a table's terms by value

@@ -31,7 +31,7 @@ fn check_in(reply: Reply) -> Answer
 pub fn state_sheet(width: u64, kind: u64, table: &[u8], state: State) -> SheetAnswer
     ensures state_stated { StateStated width kind table.now state.temperature state.density result }
     ensures sheet_numbers { SheetNumbers result }
-    ensures table_value { table.now ≡ table.now }
+    ensures table_stays { table.exit.now ≡ table.entry.now }
 {
     sheet_in(ask_own(width, kind, table, Question::Sheet(state)))
 }
@@ -46,7 +46,7 @@ pub fn density_check(
 ) -> Answer
     ensures density_stated { DensityStated width kind table.now state.temperature state.density target tolerance result }
     ensures answer_numbers { AnswerNumbers result }
-    ensures table_value { table.now ≡ table.now }
+    ensures table_stays { table.exit.now ≡ table.entry.now }
 {
     let question = Question::Density(state, target, tolerance);
     check_in(ask_own(width, kind, table, question))
@@ -63,7 +63,7 @@ pub fn pair_check(
 ) -> Answer
     ensures pair_stated { PairStated width kind table.now liquid.temperature liquid.density vapour pressure_tolerance gibbs_tolerance result }
     ensures answer_numbers { AnswerNumbers result }
-    ensures table_value { table.now ≡ table.now }
+    ensures table_stays { table.exit.now ≡ table.entry.now }
 {
     let question = Question::Pair(liquid, vapour, pressure_tolerance, gibbs_tolerance);
     check_in(ask_own(width, kind, table, question))

@@ -55,7 +55,7 @@ fn add_row(
 // What the terms share is kept at the first place that has it, each kind in an array of its own: so a product reads it where it lies.
 pub fn sums_of(v: u64, kind: u64, table: &[u8], ready: Ready, rho: f64) -> Sums
     requires width { Width v × (sound_table kind table.now ≡ true) × ReadyFor (suc v) kind table.now ready }
-    requires t { T (accepted_temperature widest ready.t) × T (accepted_density widest rho) }
+    requires accepted { T (accepted_temperature widest ready.t) × T (accepted_density widest rho) }
     ensures { result ≡ sums (suc v) kind table.now (exact_of ready.t) (exact_of rho) }
 {
     let deltas = powers(v, equation::delta(v, rho), ready.far);

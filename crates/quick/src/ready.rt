@@ -135,7 +135,7 @@ fn rows_of(v: u64, list: [Term; 64], count: usize, taus: [Bracket; 64]) -> [Row;
 // All of it for a table's terms at a temperature.
 pub fn made_ready(v: u64, kind: u64, table: &[u8], list: [Term; 64], t: f64) -> Ready
     requires width { Width v × (sound_table kind table.now ≡ true) × Holds kind table.now list }
-    requires t { T (accepted_temperature widest t) }
+    requires t_accepted { T (accepted_temperature widest t) }
     ensures { ReadyFor (suc v) kind table.now result × (result.t ≡ t) }
 {
     let count = term::count_terms(kind, table);

@@ -27,7 +27,7 @@ fn sound_count(width: u64, kind: u64, table: &[u8]) -> usize
 // How many terms are laid into a slice of so many places.
 pub fn count_laid(width: u64, kind: u64, table: &[u8], room: usize) -> usize
     ensures value { result ≡ laid width kind table.now room }
-    ensures table_value { table.now ≡ table.now }
+    ensures table_stays { table.exit.now ≡ table.entry.now }
 {
     let count = sound_count(width, kind, table);
     if count <= room { count } else { 0 }

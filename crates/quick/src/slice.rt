@@ -23,7 +23,7 @@ fn lay(list: [Term; 64], count: usize, terms: &mut [Term])
 // The reply to a question with a lent slice.
 pub fn ask(width: u64, kind: u64, table: &[u8], terms: &mut [Term], question: Question) -> Reply
     ensures stated { Stated width kind table.now terms.old terms.new question result }
-    ensures table_value { table.now ≡ table.now }
+    ensures table_stays { table.exit.now ≡ table.entry.now }
 {
     let room = terms.len();
     let count = count_laid(width, kind, table, room);
@@ -35,7 +35,7 @@ pub fn ask(width: u64, kind: u64, table: &[u8], terms: &mut [Term], question: Qu
 // The reply with a slice of 64 terms of its own, which holds every sound table.
 pub fn ask_own(width: u64, kind: u64, table: &[u8], question: Question) -> Reply
     ensures value { (result ≡ plain_reply width kind table.now question) × ReplyNumbers result }
-    ensures table_value { table.now ≡ table.now }
+    ensures table_stays { table.exit.now ≡ table.entry.now }
 {
     let mut terms = [Term {
         c: 0,

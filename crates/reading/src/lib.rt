@@ -1,4 +1,6 @@
 // An answer's values as whole numbers: the number, the place, and each end as its f64's bits.
+#![tactic(auto)]
+
 mod card;
 mod check;
 mod refusal;

@@ -78,7 +78,7 @@ pub fn density_check(
 ) -> Answer
     ensures density_stated { DensityStated width kind table.now state.temperature state.density target tolerance result }
     ensures answer_numbers { AnswerNumbers result }
-    ensures table_value { table.now ≡ table.now }
+    ensures table_stays { table.exit.now ≡ table.entry.now }
 {
     let t = state.temperature;
     let rho = state.density;

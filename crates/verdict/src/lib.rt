@@ -1,5 +1,6 @@
 // The answers to a state, a proposed density and a proposed pair at 32 or 53 bits, by a table of either kind: the numbers, places and ends of documents 01 and 02.
 // Nothing here writes to the lent table.
+#![tactic(auto)]
 
 mod widths; // widths.rt: which widths there are
 mod handed; // handed.rt: ends handed out, and their tests

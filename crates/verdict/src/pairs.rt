@@ -65,7 +65,7 @@ fn both_under_ceiling(kind: u64, p: Bracket, q: Bracket) -> bool
 // 10 and 11, by the brackets of the Gibbs gap and of the two stiffnesses; accepted with the vapour's pressure q.
 fn balanced(gibbs: Bracket, l: Bracket, v: Bracket, gibbs_tolerance: f64, q: Bracket) -> Answer
     requires handy { (Handy gibbs × Handy l) × (Handy v × Handy q) }
-    requires t { T (finite gibbs_tolerance) }
+    requires tolerance_finite { T (finite gibbs_tolerance) }
     ensures value { result ≡ first_failing (balance_worked gibbs l v gibbs_tolerance) (Accepted (handed_out q)) }
     ensures answer_numbers { AnswerNumbers result }
 {
@@ -191,7 +191,7 @@ pub fn pair_check(
 ) -> Answer
     ensures pair_stated { PairStated width kind table.now liquid.temperature liquid.density vapour pressure_tolerance gibbs_tolerance result }
     ensures answer_numbers { AnswerNumbers result }
-    ensures table_value { table.now ≡ table.now }
+    ensures table_stays { table.exit.now ≡ table.entry.now }
 {
     let t = liquid.temperature;
     let rho = liquid.density;

@@ -50,7 +50,7 @@ fn screened(v: u64, kind: u64, table: &[u8], t: f64, rho: f64) -> SheetAnswer
 pub fn state_sheet(width: u64, kind: u64, table: &[u8], state: State) -> SheetAnswer
     ensures state_stated { StateStated width kind table.now state.temperature state.density result }
     ensures sheet_numbers { SheetNumbers result }
-    ensures table_value { table.now ≡ table.now }
+    ensures table_stays { table.exit.now ≡ table.entry.now }
 {
     let t = state.temperature;
     let rho = state.density;

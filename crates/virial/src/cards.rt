@@ -47,7 +47,7 @@ fn screened(v: u64, table: &[u8], t: f64, rho: f64) -> Card
 pub fn vapour_card(width: u64, table: &[u8], state: State) -> Card
     ensures card_stated { CardStated width table.now state.temperature state.density result }
     ensures card_numbers { CardNumbers result }
-    ensures table_value { table.now ≡ table.now }
+    ensures table_stays { table.exit.now ≡ table.entry.now }
 {
     let t = state.temperature;
     let rho = state.density;

@@ -1,5 +1,7 @@
 // The vapour card of document 02, i: the second and the third virial coefficient from a table of nine-byte terms, and the pressure of their
 // polynomial, at 32 or 53 bits. Nothing here writes to the lent table.
+#![tactic(auto)]
+
 use bracket::Bracket;
 use verdict::{Ends, Refusal};
 

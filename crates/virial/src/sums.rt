@@ -35,7 +35,7 @@ fn addend(v: u64, term: Term, tau: Bracket) -> Bracket
 
 // The sum with the k-th term's addend, where it is taken.
 fn add_term(v: u64, pick: Pick, table: &[u8], k: usize, tau: Bracket, s: Bracket) -> Bracket
-    requires table_value { (sound_table 38 table.now ≡ true) × (k < count_terms 38 table.now) }
+    requires table_sound { (sound_table 38 table.now ≡ true) × (k < count_terms 38 table.now) }
     requires tau_in { TauIn v tau × Held v s }
     ensures { result ≡ with_term (suc v) pick (term_at 38 table.now k) tau s }
 {

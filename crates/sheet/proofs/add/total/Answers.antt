@@ -13,7 +13,7 @@ use Rattle.sheet.specs.Range.{extent}
 use Rattle.sheet.specs.Steps.{Addends}
 use Rattle.sheet.proofs.Live.{range_spelled}
 use Rattle.sheet.proofs.Operations.{sum_zero_left, sum_zero_right, sum_swap}
-use Rattle.sheet.proofs.add.total.Goals.{Joined-fits-2, Start}
+use Rattle.sheet.proofs.add.total.Goals.{Joined-fits-2, Start, then-fits, else-fits, then-fits-2, else-fits-2}
 use Rattle.sheet.proofs.add.total.Goals as goal
 
 -- the two numbers that the parts are of
@@ -42,10 +42,16 @@ Chosen fits a b x y = ((fits ≡ true) × (x ≡ a) × (y ≡ b)) ⊎ ((fits ≡
 chosen : (c : Joined-fits-2)
     → Chosen c.not_above-fits.result (one c.before.before.before.before.before) (other c.before.before.before.before.before) c.if-fits.first c.if-fits-2.second
 chosen c =
-    ⊎_elim
-    (λ p. ⊎_elim (λ q. inl (p.0.taken, p.1, q.1)) (λ q. absurd (true≢false (sym p.0.taken ∙ q.0.left))) c.if-fits-2.branch)
-    (λ p. ⊎_elim (λ q. absurd (true≢false (sym q.0.taken ∙ p.0.left))) (λ q. inr (p.0.left, p.1, q.1)) c.if-fits-2.branch)
-    c.if-fits.branch
+    elim c.if-fits.branch [
+      | then-fits p ↦ elim c.if-fits-2.branch [
+        | then-fits-2 q ↦ inl (p.if-fits.true, p.first-is, q.second-is)
+        | else-fits-2 q ↦ absurd (true≢false (sym p.if-fits.true ∙ q.if-fits-2.false))
+      ]
+      | else-fits p ↦ elim c.if-fits-2.branch [
+        | then-fits-2 q ↦ absurd (true≢false (sym q.if-fits-2.true ∙ p.if-fits.false))
+        | else-fits-2 q ↦ inr (p.if-fits.false, p.first-is, q.second-is)
+      ]
+    ]
 
 pub ordered-requires : goal.ordered-requires
 ordered-requires c =

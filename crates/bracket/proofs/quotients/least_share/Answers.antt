@@ -1,0 +1,16 @@
+-- `bracket::least_share` meets its contract: the end is taken by the sign, and both ends of the divisor are above zero. Assumes nothing.
+use Prim.Native.Nat.{suc}
+use mathlib.Core.Path.{ap, ◌∙◌}
+use Rattle.exact.specs.Fraction.{Fraction, ◌⊘◌}
+use Rattle.exact.specs.Fraction.Order.{≺-≼-trans}
+use Rattle.sheet.specs.Number.{value}
+use Rattle.sheet.specs.Round.{down}
+use Rattle.bracket.proofs.quotients.least_share.Goals as goal
+
+pub quotient-requires : goal.quotient-requires
+quotient-requires c = ((c.requires.0, c.end.ensures.0), ≺-≼-trans c.requires.2 c.end.ensures.2)
+
+pub returns : goal.returns
+returns c =
+    let a = c.args in
+    c.quotient.ensures ∙ ap (λ (y : Fraction). down (suc a.v) (value a.x ⊘ y)) c.end.ensures.1

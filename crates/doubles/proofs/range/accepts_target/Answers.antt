@@ -1,0 +1,31 @@
+-- `range::accepts_target` meets its contract: the literals are the bounds of the kind. Assumes nothing.
+use Prim.Native.Nat.{ℕ, ◌*◌, ◌^◌}
+use mathlib.Core.Path.{◌≡◌, sym, ap, ◌∙◌}
+use lib.Ieee.{of_bits}
+use Rattle.kind.proofs.Either.{by_long, by_plain}
+use Rattle.exact.specs.Fraction.{nat, parts, leq}
+use Rattle.doubles.specs.Double.{exact_of}
+use Rattle.doubles.specs.Range.{within}
+use Rattle.doubles.proofs.range.accepts_target.Goals as goal
+
+pub lies_within-requires : goal.lies_within-requires
+unfolding of_bits
+lies_within-requires c = record { low_finite = tt; high_finite = tt }
+
+pub lies_within-requires-else-kind-eq58 : goal.lies_within-requires-else-kind-eq58
+unfolding of_bits
+lies_within-requires-else-kind-eq58 c = record { low_finite = tt; high_finite = tt }
+
+pub returns-then-kind-eq58 : goal.returns-then-kind-eq58
+unfolding of_bits exact_of nat parts leq within
+returns-then-kind-eq58 c =
+    let a = c.args in
+    let e : c.lies_within.result ≡ within (nat 0) (nat (25 * 10 ^ 9)) a.p = c.lies_within.ensures in
+    e ∙ ap (λ (n : ℕ). within (nat 0) (nat (n)) a.p) (sym (by_long a.kind (10 ^ 9) (25 * 10 ^ 9) c.if-kind-eq58.true))
+
+pub returns-else-kind-eq58 : goal.returns-else-kind-eq58
+unfolding of_bits exact_of nat parts leq within
+returns-else-kind-eq58 c =
+    let a = c.args in
+    let e : c.lies_within-else-kind-eq58.result ≡ within (nat 0) (nat (10 ^ 9)) a.p = c.lies_within-else-kind-eq58.ensures in
+    e ∙ ap (λ (n : ℕ). within (nat 0) (nat (n)) a.p) (sym (by_plain a.kind (10 ^ 9) (25 * 10 ^ 9) c.if-kind-eq58.false))

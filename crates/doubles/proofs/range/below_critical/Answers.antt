@@ -1,0 +1,13 @@
+-- `range::below_critical` meets its contract: the literal is the limit. Assumes nothing.
+use lib.Ieee.{of_bits}
+use Rattle.exact.specs.Fraction.{nat, parts, leq}
+use Rattle.doubles.specs.Double.{exact_of}
+use Rattle.doubles.proofs.range.below_critical.Goals as goal
+
+pub above-requires : goal.above-requires
+unfolding of_bits
+above-requires c = record { x_finite = tt; y_finite = c.requires }
+
+pub returns : goal.returns
+unfolding of_bits exact_of nat parts leq
+returns c = c.above.ensures
