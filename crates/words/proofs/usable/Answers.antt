@@ -6,14 +6,12 @@ use Prim.Native.Nat.{ℕ, ◌/◌, ◌^◌, ◌≤◌}
 use native.Mathlib.Nat.{mod-lt, div-add-mod'}
 use native.Mathlib.Omega.{arith}
 use lib.Pow.{pow_pos}
-use borrow.Author.Rules.{rules}
 use borrow.Author.Tests.{eqb-true, leb-true}
 use Rattle.sheet.specs.declared.Sheet.{Sheet}
 use Rattle.sheet.specs.Number.{plain_zero, Digits}
 use Rattle.sheet.specs.Range.{Width, InRange}
 use Rattle.sheet.proofs.Live.{bias-is}
-use Rattle.words.proofs.usable.Statement.{statement}
-use Rattle.words.proofs.usable.Tie as tie
+use Rattle.words.proofs.usable.Goals as goal
 
 nothing : {v : ℕ} → Width v → (s : Sheet) → s.m ≡ 0 → s.neg ≡ false → s.e ≡ 0 → InRange v s
 nothing w s m n e =
@@ -32,27 +30,19 @@ some {v} w s h c d =
     let z = bias-is in
     record { width = w; within = record { normal = inr (digits v s.m h); exponent = inr (omega arith, omega arith) } }
 
-returns : tie.Need-returns
-returns c h = absurd (false≢true h)
+pub returns-then-s : goal.returns-then-s
+returns-then-s c h = absurd (false≢true h)
 
-returns-2 : tie.Need-returns-2
-returns-2 c h =
-    let start = c.before.before in
-    nothing start.requires start.args.s c.before.if1.true c.if2.false (eqb-true start.args.s.e 0 h)
+pub returns-then-m-eq0 : goal.returns-then-m-eq0
+returns-then-m-eq0 c h =
+    nothing c.requires c.args.s c.if-m-eq0.true c.if-s.false (eqb-true c.args.s.e 0 h)
 
-shr-if3 : tie.Need-overflow-shr-if3
-shr-if3 c = search rules
+pub returns-then-m-v-ne1 : goal.returns-then-m-v-ne1
+returns-then-m-v-ne1 c h = absurd (false≢true h)
 
-returns-3 : tie.Need-returns-3
-returns-3 c h = absurd (false≢true h)
+pub returns-then-e-lt182144 : goal.returns-then-e-lt182144
+returns-then-e-lt182144 c h = absurd (false≢true h)
 
-returns-4 : tie.Need-returns-4
-returns-4 c h = absurd (false≢true h)
-
-returns-5 : tie.Need-returns-5
-returns-5 c h =
-    let start = c.before.before.before in
-    some start.requires start.args.s c.before.if3.false c.if4.false (leb-true start.args.s.e 342144 h)
-
-pub usable-spec : {M : Type 1} → statement M
-usable-spec = tie.close (tie.spec returns returns-2 shr-if3 returns-3 returns-4 returns-5)
+pub returns : goal.returns
+returns c h =
+    some c.requires c.args.s c.if-m-v-ne1.false c.if-e-lt182144.false (leb-true c.args.s.e 342144 h)
