@@ -3,19 +3,11 @@ use mathlib.Core.Path.{◌∙◌}
 use Prim.Native.Nat.{◌*◌, ◌^◌, ◌<◌}
 use native.Mathlib.Nat.{mod-eq_of_lt, one-mul}
 use native.Mathlib.Omega.{arith}
-use borrow.Author.Rules.{rules}
 use Rattle.series.proofs.RatioSteps.{small_power}
-use Rattle.series.proofs.ratio.two_to.Statement.{statement}
-use Rattle.series.proofs.ratio.two_to.Tie as tie
+use Rattle.series.proofs.ratio.two_to.Goals as goal
 
-shl-result : tie.Need-overflow-shl-result
-shl-result c = search rules
-
-returns : tie.Need-returns
+pub returns : goal.returns
 returns c =
     let k = c.args.k in
     let h : 1 * 2 ^ k < 2 ^ 64 = omega (arith, small_power k c.requires) in
     mod-eq_of_lt h ∙ one-mul (2 ^ k)
-
-pub two-to-spec : {M : Type 1} → statement M
-two-to-spec = tie.close (tie.spec shl-result returns)
