@@ -1,5 +1,7 @@
 // The packed terms of both kinds of table (document 01, "The packed term"; document 02, h): their fields, the check of a table of them, and a
 // term packed. A kind other than 58 is treated as 38. Nothing here writes to a lent table.
+#![tactic(auto)]
+
 ghost use Rattle.std.specs.Prelude.{◌≡◌, ◌+◌, ◌*◌, ◌≤◌, length};
 ghost use Rattle.kind.specs.Kind.{term_bytes};
 ghost use Rattle.term.specs.Packed.{term_at, spare_at, count_terms};
