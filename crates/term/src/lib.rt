@@ -42,7 +42,7 @@ pub enum Table {
 // The k-th term of a table, field by field.
 pub fn term_at(kind: u64, table: &[u8], k: usize) -> Term
     requires { (term_bytes kind * k + term_bytes kind ≤ length table.now) × (length table.now ≤ 768) }
-    ensures { (result ≡ term_at kind table.now k) × (table.now ≡ table.now) }
+    ensures { (result ≡ term_at kind table.now k) × (table.exit.now ≡ table.entry.now) }
 {
     if kind == 58 {
         long::long_at(table, k)
@@ -103,7 +103,7 @@ fn first_broken(kind: u64, table: &[u8]) -> usize
 
 // The whole table: its length, then its terms.
 pub fn check_table(kind: u64, table: &[u8]) -> Table
-    ensures { (result ≡ table_answer kind table.now) × (table.now ≡ table.now) }
+    ensures { (result ≡ table_answer kind table.now) × (table.exit.now ≡ table.entry.now) }
 {
     if sound_length(kind, table.len()) {
         let place = first_broken(kind, table);
