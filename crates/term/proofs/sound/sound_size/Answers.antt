@@ -3,26 +3,22 @@ use native.Mathlib.Omega.{arith}
 use mathlib.Core.Bool.{and-false}
 use borrow.Author.Tests.{le-ltb, lt-ltb}
 use Rattle.term.specs.Sound.{sound_size}
-use Rattle.term.proofs.sound.sound_size.Statement.{statement}
-use Rattle.term.proofs.sound.sound_size.Tie as tie
+use Rattle.term.proofs.sound.sound_size.Goals as goal
 
-returns : tie.Need-returns
+pub returns-then-term-eq0 : goal.returns-then-term-eq0
 unfolding sound_size
-returns c =
-    let a = c.before.before.args.term in
+returns-then-term-eq0 c =
+    let a = c.args.term in
     simp (le-ltb 0 a.d (omega arith))
 
-returns-2 : tie.Need-returns-2
+pub returns-then-magnitude-eq0 : goal.returns-then-magnitude-eq0
 unfolding sound_size
-returns-2 c =
-    let a = c.before.before.before.args.term in
+returns-then-magnitude-eq0 c =
+    let a = c.args.term in
     simp (le-ltb 0 a.magnitude (omega arith), and-false)
 
-returns-3 : tie.Need-returns-3
+pub returns-else-magnitude-eq0 : goal.returns-else-magnitude-eq0
 unfolding sound_size
-returns-3 c =
-    let a = c.before.before.before.args.term in
+returns-else-magnitude-eq0 c =
+    let a = c.args.term in
     simp (lt-ltb 0 a.d (omega arith), lt-ltb 0 a.magnitude (omega arith))
-
-pub sound-size-spec : {M : Type 1} → statement M
-sound-size-spec = tie.close (tie.spec returns returns-2 returns-3)
