@@ -5,42 +5,41 @@ use Rattle.verdict.specs.Worked.{phase_of}
 use Rattle.verdict.proofs.Tests.{holds}
 use Rattle.doubles.proofs.Limits.{temperature_widest, density_widest}
 use Rattle.verdict.proofs.Ready.{sums-ready, pressure-ready, pressure-handy, stiffness-handy, pressure_gap-handy, gibbs_gap-handy}
-use Rattle.verdict.proofs.pairs.worked.Statement.{statement}
-use Rattle.verdict.proofs.pairs.worked.Tie as tie
+use Rattle.verdict.proofs.pairs.worked.Goals as goal
 
-phase-of-requires : tie.Need-phase-of-requires
-phase-of-requires c κs =
-    let p = c.before.requires in
+pub phase_of-l-requires : goal.phase_of-l-requires
+phase_of-l-requires c =
+    let p = c.requires in
     record { width = p.width; table_sound = p.table_sound; temperature = p.temperature; density = p.liquid_density }
 
-phase-of-requires-2 : tie.Need-phase-of-requires-2
-phase-of-requires-2 c κs =
-    let p = c.before.before.requires in
+pub phase_of-g-requires : goal.phase_of-g-requires
+phase_of-g-requires c =
+    let p = c.requires in
     record { width = p.width; table_sound = p.table_sound; temperature = p.temperature; density = p.vapour_density }
 
-pressure-gap-of-requires : tie.Need-pressure-gap-of-requires
+pub pressure_gap_of-gap-requires : goal.pressure_gap_of-gap-requires
 unfolding phase_of
-pressure-gap-of-requires c κs =
-    let p = c.before.before.before.requires in
-    rw (c.phase-of2.ensures, c.before.phase-of.ensures)
+pressure_gap_of-gap-requires c =
+    let p = c.requires in
+    rw (c.phase_of-g.ensures, c.phase_of-l.ensures)
     (pressure-ready p.width _ _ p.table_sound _ p.temperature _ p.liquid_density, pressure-ready p.width _ _ p.table_sound _ p.temperature _ p.vapour_density)
 
-gibbs-gap-of-requires : tie.Need-gibbs-gap-of-requires
+pub gibbs_gap_of-gibbs-requires : goal.gibbs_gap_of-gibbs-requires
 unfolding phase_of
-gibbs-gap-of-requires c κs =
-    let a = c.before.before.before.before.args in
-    let p = c.before.before.before.before.requires in (
+gibbs_gap_of-gibbs-requires c =
+    let a = c.args in
+    let p = c.requires in (
       temperature_widest a.kind a.t p.temperature,
       record { dense = density_widest a.kind a.liquid p.liquid_density; thin = density_widest a.kind a.vapour p.vapour_density; order = holds (≼-leq p.above) },
-      rw c.before.before.phase-of.ensures (sums-ready p.width _ _ p.table_sound _ p.temperature _ p.liquid_density),
-      rw c.before.phase-of2.ensures (sums-ready p.width _ _ p.table_sound _ p.temperature _ p.vapour_density),
+      rw c.phase_of-l.ensures (sums-ready p.width _ _ p.table_sound _ p.temperature _ p.liquid_density),
+      rw c.phase_of-g.ensures (sums-ready p.width _ _ p.table_sound _ p.temperature _ p.vapour_density),
     )
 
-judged-requires : tie.Need-judged-requires
+pub judged-requires : goal.judged-requires
 unfolding phase_of pressure_gap gibbs_gap
-judged-requires c κs =
-    let p = c.before.before.before.before.before.requires in (
-      rw (c.gibbs-gap-of.ensures, c.before.pressure-gap-of.ensures, c.before.before.phase-of2.ensures, c.before.before.before.phase-of.ensures) (
+judged-requires c =
+    let p = c.requires in (
+      rw (c.gibbs_gap_of-gibbs.ensures, c.pressure_gap_of-gap.ensures, c.phase_of-g.ensures, c.phase_of-l.ensures) (
         (
           (pressure-handy p.width _ _ p.table_sound _ p.temperature _ p.liquid_density, pressure-handy p.width _ _ p.table_sound _ p.temperature _ p.vapour_density),
           (
@@ -53,13 +52,10 @@ judged-requires c κs =
       (p.pressure-tolerance, p.gibbs-tolerance),
     )
 
-returns : tie.Need-returns
+pub returns : goal.returns
 unfolding phase_of pressure_gap gibbs_gap
-returns c = (
-  rw (c.before.gibbs-gap-of.ensures, c.before.before.pressure-gap-of.ensures, c.before.before.before.phase-of2.ensures, c.before.before.before.before.phase-of.ensures)
-      at c.judged.ensures.0,
-  c.judged.ensures.1,
-)
-
-pub worked-spec : {M : Type 1} → statement M
-worked-spec = tie.close (tie.spec phase-of-requires phase-of-requires-2 pressure-gap-of-requires gibbs-gap-of-requires judged-requires returns)
+returns c = record {
+  value = rw (c.gibbs_gap_of-gibbs.ensures, c.pressure_gap_of-gap.ensures, c.phase_of-g.ensures, c.phase_of-l.ensures)
+      at c.judged.ensures.value;
+  answer_numbers = c.judged.ensures.answer_numbers;
+}
