@@ -1,6 +1,8 @@
 // Old tables as new ones and back (document 02, h): nine-byte terms to twelve, and twelve to nine, into lent buffers.
 // The answer is made in an array of the call's own and delivered at the very end, so that a refusal has written no byte.
 // Nothing has to be checked before a call.
+#![tactic(auto)]
+
 ghost use Rattle.std.specs.Prelude.{◌≡◌};
 ghost use Rattle.convert.specs.Converts.{Says};
 

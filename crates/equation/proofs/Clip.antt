@@ -4,7 +4,7 @@ use mathlib.Core.Path.{◌≡◌, refl, sym, ap, subst, ◌∙◌}
 use mathlib.Core.Bool.{Bool, true, false, cond}
 use native.Mathlib.Omega.{arith}
 use lib.Pow.{pow_mono}
-use Rattle.exact.specs.Fraction.{Fraction, nat, leq, least, ◌≈◌}
+use Rattle.exact.specs.Fraction.{nat, leq, least, ◌≈◌}
 use Rattle.exact.specs.Fraction.Order.{≈-refl, ≈-sym, leq-resp, leq-true, leq-false}
 use Rattle.exact.specs.Fraction.Least.{least_first, least-second}
 use Rattle.sheet.specs.declared.Sheet.{Sheet}

@@ -1,12 +1,12 @@
 -- Kind 38 is document 01's equation as it stood: factor 100 is exactly 1, and no g of that kind passes 128. Its sums are the plain rule's,
 -- bracket for bracket, and its readings at a level are the plain equation's. Assumes nothing.
 use Prim.Native.Nat.{ℕ, zero, suc, ◌≤◌, ◌<◌}
-use mathlib.Core.Path.{◌≡◌, refl, sym, ap, ap₂, ◌∙◌, subst}
-use mathlib.Core.Bool.{Bool, true, false, cond}
+use mathlib.Core.Path.{◌≡◌, refl, sym, ap₂, ◌∙◌, subst}
+use mathlib.Core.Bool.{Bool, true, false}
 use mathlib.Core.List.{List}
 use native.Mathlib.Omega.{arith}
-use native.Mathlib.Nat.{le_trans, le_refl}
-use Rattle.exact.specs.Fraction.{Fraction, nat, parts, leq, ◌⊗◌, ◌≼◌, ◌≈◌}
+use native.Mathlib.Nat.{le_refl}
+use Rattle.exact.specs.Fraction.{Fraction, nat, ◌⊗◌, ◌≼◌, ◌≈◌}
 use Rattle.exact.specs.Fraction.Order.{≼_refl, ≼_trans, ≼-leq, ≈-refl, ≈-sym, ≈-trans, ≼-≈-trans}
 use Rattle.exact.specs.Fraction.Sum.{⊕-cong, ⊖-cong}
 use Rattle.exact.specs.Fraction.Product.{⊗-cong, one-⊗, ⊗-mono-right}
@@ -32,10 +32,9 @@ use Rattle.bracket.proofs.Corners.{corner, over-is}
 use Rattle.bracket.proofs.Inclusion.{power-ordered}
 use Rattle.bracket.proofs.Kept.{rounded-spelled}
 use Rattle.measure.proofs.Measure.{one-few}
-use Rattle.equation.specs.declared.Sums.{Sums}
 use Rattle.equation.specs.Constants.{hundredths}
 use Rattle.equation.specs.Ranged.{UpTo}
-use Rattle.equation.specs.Rules.{delta, tau, scaled, g_of, clipped, factor_e, addends, plus_each, sums_first, sums}
+use Rattle.equation.specs.Rules.{delta, tau, scaled, g_of, factor_e, addends, plus_each, sums_first, sums}
 use Rattle.equation.specs.Itself.{delta_at, tau_at, scaled_at, g_at, factor_e_at, term_v_at, term_w_at, factor_s2_at, SumsAt, addends_at, sums_first_at, sums_at}
 use Rattle.equation.specs.Plain.{plain_e, plain_addends, plain_first, plain_sums, plain_e_at, plain_addends_at, plain_first_at, plain_sums_at}
 use Rattle.equation.proofs.Small.{delta-up_to, g-most}

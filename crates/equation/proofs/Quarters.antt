@@ -1,17 +1,16 @@
 -- Lower bounds that are no powers of two, in quarters, and how rounding keeps them; and a size from such a bound. Assumes nothing.
-use mathlib.Core.Path.{◌≡◌}
-use mathlib.Core.Logic.{◌⊎◌, inl, inr}
+use mathlib.Core.Logic.{inr}
 use mathlib.Core.Bool.{Bool, true, false}
-use Prim.Native.Nat.{ℕ, suc, ◌+◌, ◌-◌, ◌*◌, ◌^◌, ◌≤◌, ◌<◌}
+use Prim.Native.Nat.{ℕ, suc, ◌-◌, ◌*◌, ◌^◌, ◌≤◌, ◌<◌}
 use native.Mathlib.Nat.{le_of_mul-le-mul_right, le_refl}
 use native.Mathlib.Omega.{arith}
-use lib.Pow.{pow_pos, pow_mono, pow-add}
-use Rattle.exact.specs.Fraction.{Fraction, nat, parts, leq, negate, ◌⊕◌, ◌⊖◌, ◌⊗◌, ◌≼◌, ◌≺◌, ◌≈◌}
-use Rattle.exact.specs.Fraction.Order.{≼_trans, ≼-not-≺, ≺→≼, ≈→≼, ≈-sym, ≈-≼-trans, ≼-≈-trans, ≼-by}
+use lib.Pow.{pow_pos, pow_mono}
+use Rattle.exact.specs.Fraction.{Fraction, nat, parts, leq, negate, ◌⊕◌, ◌⊖◌, ◌⊗◌, ◌≼◌, ◌≈◌}
+use Rattle.exact.specs.Fraction.Order.{≼_trans, ≼-not-≺, ≈-sym, ≈-≼-trans, ≼-≈-trans, ≼-by}
 use Rattle.exact.specs.Fraction.Sum.{⊖-mono}
 use Rattle.exact.specs.Fraction.Product.{⊗-mono}
-use Rattle.exact.specs.Fraction.Parts.{≼-parts, parts-≼, parts-nat, parts-nonneg, parts-nonpos, nat-≼}
-use Rattle.sheet.specs.Number.{bias, value}
+use Rattle.exact.specs.Fraction.Parts.{≼-parts, parts-≼, parts-nonneg, parts-nonpos, nat-≼}
+use Rattle.sheet.specs.Number.{bias}
 use Rattle.sheet.proofs.Laws.{short-le_round}
 use Rattle.bracket.specs.Span.{Span, Each, whole}
 use Rattle.bracket.specs.Rules.{ends, rounded, minus, times}

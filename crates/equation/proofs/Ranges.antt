@@ -2,7 +2,7 @@
 -- suc v: the inputs, the constants, the coefficient, powers, g and V. The numbers are the exponents n of 2^n between which the ends lie, zero
 -- aside. Below 4 kg/m3 delta is thin, above it dense. Assumes nothing.
 use mathlib.Core.Logic.{◌⊎◌, inl, inr, ⊎_elim}
-use mathlib.Core.Bool.{true, false}
+use mathlib.Core.Bool.{false}
 use Prim.Native.Nat.{ℕ, zero, suc, ◌+◌, ◌-◌, ◌*◌, ◌^◌, ◌≤◌, ◌<◌}
 use native.Mathlib.Nat.{le_refl, mul-le-mul_right}
 use native.Mathlib.Omega.{arith}

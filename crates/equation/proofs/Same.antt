@@ -1,17 +1,15 @@
 -- The sums look at the terms that a table is read as, and at nothing else of it: two tables of any kinds that read the same give the same.
 -- Assumes nothing.
-use Prim.Native.Nat.{ℕ, zero, suc, ◌≤◌, ◌<◌}
+use Prim.Native.Nat.{ℕ, zero, suc, ◌<◌}
 use mathlib.Core.Path.{◌≡◌, refl, ap, ap₂, ◌∙◌}
 use mathlib.Core.List.{List}
 use native.Mathlib.Omega.{arith}
-use native.Mathlib.Nat.{le_refl}
 use Rattle.exact.specs.Fraction.{Fraction}
 use Rattle.term.specs.declared.Term.{Term}
 use Rattle.term.specs.Packed.{term_at, count_terms}
 use Rattle.bracket.specs.declared.Bracket.{Bracket}
-use Rattle.equation.specs.declared.Sums.{Sums}
 use Rattle.equation.specs.Rules.{delta, tau, addends, plus_each, sums_first, sums}
-use Rattle.equation.specs.Itself.{delta_at, tau_at, SumsAt, addends_at, sums_first_at, sums_at}
+use Rattle.equation.specs.Itself.{delta_at, tau_at, sums_first_at, sums_at}
 
 module _ (a b : ℕ → Term) where
   same_first : (w : ℕ) (δ τ : Bracket) (n : ℕ) → ((k : ℕ) → k < n → a k ≡ b k) → sums_first w a δ τ n ≡ sums_first w b δ τ n

@@ -1,5 +1,5 @@
 -- The range of what the sums are put into: pressure, stiffness, Gibbs gap and the gaps of pressure, over the count of bits suc v. Assumes nothing.
-use Prim.Native.Nat.{ℕ, suc, ◌+◌, ◌-◌, ◌*◌, ◌^◌, ◌≤◌}
+use Prim.Native.Nat.{ℕ, suc, ◌+◌, ◌-◌, ◌*◌, ◌≤◌}
 use native.Mathlib.Nat.{le_refl, one-mul}
 use native.Mathlib.Omega.{arith}
 use lib.Pow.{pow_mono}

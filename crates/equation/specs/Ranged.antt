@@ -8,7 +8,7 @@ use Rattle.bracket.specs.Span.{Each}
 use Rattle.bracket.specs.Rules.{ends}
 use Rattle.bracket.specs.Held.{Held}
 use Rattle.measure.specs.Measure.{Sized, Digited}
-use Rattle.measure.proofs.Sizes.{Summed, Positive, Plus}
+use Rattle.measure.proofs.Sizes.{Summed, Plus}
 use Rattle.equation.specs.declared.Sums.{Sums}
 
 -- from 0 to a whole number

@@ -1,5 +1,7 @@
 // What the bench program writes and reads, as bytes: the line for one answer, the numbers of one proposal, and the words for the width and the kind.
 // Nothing that this crate offers has a `requires`, and nothing here reads or writes a file.
+#![tactic(auto)]
+
 mod digits;
 mod proposal;
 mod word;

@@ -61,8 +61,8 @@ digits-back zero n rest h = omega (arith, pow-zero 10)
 digits-back (suc k) n rest h =
     let less : n / 10 < 10 ^ k = (div-lt_iff_lt-mul {k = 10} (omega arith)).1 (rw pow-suc at h) in
     let last : ℕ = 48 + n % 10 in
-    rw (
-      append_assoc (digits k (n / 10)) (last ∷ []) rest,
+    let whole : digits (suc k) n ++ rest ≡ digits k (n / 10) ++ (last ∷ rest) = append_assoc (digits k (n / 10)) (last ∷ []) rest in
+    ap (λ s. number_of s (suc k)) whole ∙ rw (
       digits-back k (n / 10) (last ∷ rest) less,
       get_or_at (digits k (n / 10)) last rest 0 k (digits-length k (n / 10)),
       figure-back (n % 10) (omega arith),

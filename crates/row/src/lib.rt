@@ -1,6 +1,8 @@
 // A row of a text table (document 02, c): read at a place of a text, written into a line, and turned into a term and back.
 // A reader that refuses byte by byte would have an exit for each slip. This one guesses the fields, spells them as the writer does, and
 // holds that against the text: a row stands there exactly if the two are the same.
+#![tactic(auto)]
+
 mod reader;
 mod said;
 mod writer;

@@ -48,7 +48,7 @@ z_argument {v} w {liquid} {vapour} k g p l =
 
 -- ---- the answers
 pub series_held : {v : ℕ} {Z : Bracket} → Argument v Z → Held v (ln_series (suc v) Z)
-series_held {v} {Z} a = let w = a.held.lo.width in held.series-held w (v + 3) (omega (arith, w.high)) Z a.held a.sized
+series_held {v} {Z} a = let w = a.held.lo.width in held.series_held w (v + 3) (omega (arith, w.high)) Z a.held a.sized
 
 pub ln_two-held : {v : ℕ} → Width v → Held v (ln_two (suc v))
 unfolding ln_two

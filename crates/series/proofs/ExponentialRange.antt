@@ -4,7 +4,7 @@ use mathlib.Core.Path.{◌≡◌, ap, ◌∙◌}
 use Prim.Native.Nat.{ℕ, zero, suc, ◌+◌, ◌-◌, ◌*◌, ◌^◌, ◌≤◌, ◌<◌}
 use native.Mathlib.Nat.{mul-le-mul_right, le_trans, le_refl, zero-lt-suc}
 use native.Mathlib.Omega.{arith}
-use lib.Dec.{T, lit≤}
+use lib.Dec.{lit≤}
 use lib.Pow.{pow_mono, pow-add}
 use Rattle.exact.specs.Fraction.{Fraction, nat, ◌⊕◌, ◌⊘◌, ◌≼◌}
 use Rattle.exact.specs.Fraction.Order.{≼_trans, ≺→≼, ≺-≼-trans, ≈-≼-trans}

@@ -69,7 +69,7 @@ module _ {v : ℕ} {Z : Bracket} (a : Argument v Z) where
   quotient-held j h e = held-as e (held.quotient-held w (v + 3) few Z a.held a.sized j h)
 
   pub sum_held : {p : Bracket} (j : ℕ) → j ≤ 20 → p ≡ ln_sum (suc v) Z j → Held v p
-  sum_held j h e = held-as e (held.sum-held w (v + 3) few Z a.held a.sized j h)
+  sum_held j h e = held-as e (held.sum_held w (v + 3) few Z a.held a.sized j h)
 
   pub total-held : {p : Bracket} → p ≡ ln_total (suc v) Z → Held v p
   total-held e = held-as e (held.total-held w (v + 3) few Z a.held a.sized a.reach)

@@ -2,7 +2,7 @@
 -- 1, nor 2^247 for x to 128. Assumes nothing.
 use mathlib.Core.Path.{◌≡◌, subst}
 use mathlib.Core.Logic.{⊎_elim}
-use mathlib.Core.Bool.{Bool, true, ◌&&◌}
+use mathlib.Core.Bool.{Bool, true, false, ◌&&◌}
 use Prim.Native.Nat.{ℕ, zero, suc, ◌+◌, ◌-◌, ◌^◌, ◌≤◌, ◌<◌}
 use native.Mathlib.Nat.{eq-or-lt_of_le, le_refl}
 use native.Mathlib.Omega.{arith}
@@ -32,6 +32,8 @@ under p t (suc k) = under p t k && leb (rise p (suc k)) t
 
 both : (a b : Bool) → T (a && b) → T a × T b
 both true true t = (tt, tt)
+both false b t = elim t [ ]
+both true false t = elim t [ ]
 
 under-each : (p t n : ℕ) → T (under p t n) → (k : ℕ) → k ≤ n → rise p k ≤ t
 unfolding under

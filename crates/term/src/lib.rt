@@ -1,5 +1,7 @@
 // The packed terms of both kinds of table (document 01, "The packed term"; document 02, h): their fields, the check of a table of them, and a
 // term packed. A kind other than 58 is treated as 38. Nothing here writes to a lent table.
+#![tactic(auto)]
+
 ghost use Rattle.std.specs.Prelude.{◌≡◌, ◌+◌, ◌*◌, ◌≤◌, length};
 ghost use Rattle.kind.specs.Kind.{term_bytes};
 ghost use Rattle.term.specs.Packed.{term_at, spare_at, count_terms};
@@ -40,7 +42,7 @@ pub enum Table {
 // The k-th term of a table, field by field.
 pub fn term_at(kind: u64, table: &[u8], k: usize) -> Term
     requires { (term_bytes kind * k + term_bytes kind ≤ length table.now) × (length table.now ≤ 768) }
-    ensures { (result ≡ term_at kind table.now k) × (table.now ≡ table.now) }
+    ensures { (result ≡ term_at kind table.now k) × (table.exit.now ≡ table.entry.now) }
 {
     if kind == 58 {
         long::long_at(table, k)
@@ -101,7 +103,7 @@ fn first_broken(kind: u64, table: &[u8]) -> usize
 
 // The whole table: its length, then its terms.
 pub fn check_table(kind: u64, table: &[u8]) -> Table
-    ensures { (result ≡ table_answer kind table.now) × (table.now ≡ table.now) }
+    ensures { (result ≡ table_answer kind table.now) × (table.exit.now ≡ table.entry.now) }
 {
     if sound_length(kind, table.len()) {
         let place = first_broken(kind, table);

@@ -1,6 +1,8 @@
 // Tables typed as text (document 02, c): rows read into packed terms, and packed terms written as rows, into lent buffers.
 // Both calls make their answer in an array of their own and deliver it at the very end, so that a refusal has written no byte.
 // Nothing has to be checked before a call.
+#![tactic(auto)]
+
 mod reading;
 mod values;
 mod writing;

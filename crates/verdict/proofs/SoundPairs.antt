@@ -9,7 +9,7 @@ use Rattle.verdict.specs.Steps.{AllPass}
 use Rattle.verdict.specs.Rules.{pair_steps, under_ceiling}
 use Rattle.verdict.specs.Balance.{SoundPair}
 use Rattle.verdict.proofs.Tables.{table_parts, sound}
-use Rattle.verdict.proofs.Tests.{both, together, sides, on_sides, under-ceiling}
+use Rattle.verdict.proofs.Tests.{both, together, sides, on_sides_lem, under-ceiling}
 
 module _ (w kind : ℕ) (table : List ℕ) (t liquid vapour pressure_tolerance gibbs_tolerance : Float) where
   passes_sound : AllPass (take 9 (pair_steps w kind table t liquid vapour pressure_tolerance gibbs_tolerance))
@@ -53,7 +53,7 @@ module _ (w kind : ℕ) (table : List ℕ) (t liquid vapour pressure_tolerance g
                   (
                     together _ _ pair.pressure-tolerance pair.gibbs-tolerance,
                     (
-                      on_sides liquid vapour pair.liquid_side pair.vapour_side,
+                      on_sides_lem liquid vapour pair.liquid_side pair.vapour_side,
                       (together _ _ ((under-ceiling kind _).1 pair.liquid_ceiling) ((under-ceiling kind _).1 pair.vapour_ceiling), tt),
                     ),
                   ),

@@ -35,11 +35,11 @@ pub together : (a b : Bool) → a ≡ true → b ≡ true → (a && b) ≡ true
 together a b p q = (and-eq-true_iff a b).1 (p, q)
 
 -- ---- a test in the code, `if !result { return .. }`, whose result is b
-pub passed : {b r : Bool} → r ≡ b → not r ≡ false → b ≡ true
-passed e left = sym e ∙ not-false _ left
+pub passed : {b r : Bool} → r ≡ b → r ≡ true → b ≡ true
+passed e left = sym e ∙ left
 
-pub failed : {b r : Bool} → r ≡ b → not r ≡ true → b ≡ false
-failed e taken = sym e ∙ not-true _ taken
+pub failed : {b r : Bool} → r ≡ b → r ≡ false → b ≡ false
+failed e taken = sym e ∙ taken
 
 -- ---- accepted inputs
 pub holds : {b : Bool} → b ≡ true → T b
@@ -77,9 +77,9 @@ sides liquid vapour p =
     let b = both (not (leq (exact_of liquid) (nat 322))) (not (leq (nat 322) (exact_of vapour))) p in
     (leq-false _ _ (not-true _ b.0), leq-false _ _ (not-true _ b.1))
 
-pub on_sides : (liquid vapour : Float) → nat 322 ≺ exact_of liquid → exact_of vapour ≺ nat 322 → on_sides liquid vapour ≡ true
+pub on_sides_lem : (liquid vapour : Float) → nat 322 ≺ exact_of liquid → exact_of vapour ≺ nat 322 → on_sides liquid vapour ≡ true
 unfolding on_sides
-on_sides liquid vapour l v = rw (≺-leq l, ≺-leq v)
+on_sides_lem liquid vapour l v = rw (≺-leq l, ≺-leq v)
 
 -- ---- an end and a limit
 pub under-ceiling : (kind : ℕ) (b : Bracket) → under_ceiling kind b ≡ true ↔ (value b.hi ≼ nat (highest kind))

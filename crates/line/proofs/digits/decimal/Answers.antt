@@ -1,0 +1,15 @@
+-- `line::digits::decimal` meets its contract. Assumes nothing.
+use native.Mathlib.Omega.{arith}
+use Rattle.line.specs.Digits.{decimal_of}
+use Rattle.lent.proofs.Joined.{put_then}
+use Rattle.line.proofs.digits.decimal.Goals as goal
+
+pub digits-end-requires : goal.digits-end-requires
+digits-end-requires c = omega arith
+
+pub put-requires : goal.put-requires
+put-requires c = omega arith
+
+pub returns : goal.returns
+unfolding decimal_of
+returns c = record { put = put_then c.digits-end.ensures.put c.put.ensures; upper_bound = omega arith }
