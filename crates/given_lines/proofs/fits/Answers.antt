@@ -5,15 +5,13 @@ use Prim.Native.Nat.{ℕ, suc, ◌+◌, ◌-◌, ◌*◌, ◌/◌, ◌%◌, ◌^
 use native.Mathlib.Nat.{mod-eq_of_lt, mod-lt, div-add-mod', lt_of_le_of_lt, lt_of_lt_of_le, div-mul-le_self, mul_assoc, mul-le-mul_right, zero-mul}
 use native.Mathlib.Omega.{arith}
 use lib.Pow.{pow-add, pow_pos, pow_mono, shl_lt}
-use borrow.Author.Rules.{rules}
 use borrow.Author.Tests.{eqb-true}
 use Rattle.sheet.specs.declared.Sheet.{Sheet}
 use Rattle.sheet.specs.Number.{bias}
 use Rattle.sheet.specs.Range.{Width, Grain, Doubled, extent}
 use Rattle.sheet.proofs.Live.{bias-is}
 use Rattle.sheet.proofs.Measures.{grain-shift, grain-zero, grain-coarser}
-use Rattle.given_lines.proofs.fits.Statement.{statement}
-use Rattle.given_lines.proofs.fits.Tie as tie
+use Rattle.given_lines.proofs.fits.Goals as goal
 
 -- at most one digit above v others
 few : (v m : ℕ) → m / 2 ^ v ≤ 1 → m < 2 ^ suc v
@@ -47,50 +45,27 @@ zeros m t e g z l =
 back : (m t : ℕ) → m < 2 ^ 64 → m / 2 ^ t * 2 ^ t % 2 ^ 64 ≡ m / 2 ^ t * 2 ^ t
 back m t h = mod-eq_of_lt (lt_of_le_of_lt (div-mul-le_self m (2 ^ t)) h)
 
-shr-if1 : tie.Need-overflow-shr-if1
-shr-if1 c = search rules
+pub returns-then-m-v-gt1 : goal.returns-then-m-v-gt1
+returns-then-m-v-gt1 c h = absurd (false≢true h)
 
-returns : tie.Need-returns
-returns c h = absurd (false≢true h)
+pub returns-then-v-e : goal.returns-then-v-e
+returns-then-v-e c h = absurd (false≢true h)
 
-sub-if2 : tie.Need-overflow-sub-if2
-sub-if2 c = search rules
+pub returns-then-e-ge261070 : goal.returns-then-e-ge261070
+returns-then-e-ge261070 c h =
+    let s = c.args.s in
+    doubled c.args.v c.requires s c.if-m-v-gt1.false c.if-v-e.false (grain-shift 261070 s.m s.e c.if-e-ge261070.true)
 
-returns-2 : tie.Need-returns-2
-returns-2 c h = absurd (false≢true h)
-
-returns-3 : tie.Need-returns-3
-returns-3 c h =
-    let start = c.before.before.before in
-    let s = start.args.s in
-    doubled start.args.v start.requires s c.before.before.if1.false c.before.if2.false (grain-shift 261070 s.m s.e c.if3.true)
-
-sub-below : tie.Need-overflow-sub-below
-sub-below c = search rules
-
-returns-4 : tie.Need-returns-4
-returns-4 c h =
-    let start = c.before.before.before.before in
-    let s = start.args.s in
+pub returns-then-below-gt63 : goal.returns-then-below-gt63
+returns-then-below-gt63 c h =
+    let s = c.args.s in
     let z : s.m ≡ 0 = eqb-true s.m 0 h in
-    doubled start.args.v start.requires s c.before.before.before.if1.false c.before.before.if2.false (rw (z, zero-mul) (grain-zero 261070))
+    doubled c.args.v c.requires s c.if-m-v-gt1.false c.if-v-e.false (rw (z, zero-mul) (grain-zero 261070))
 
-shr-kept : tie.Need-overflow-shr-kept
-shr-kept c = search rules
-
-shl-result : tie.Need-overflow-shl-result
-shl-result c = search rules
-
-returns-5 : tie.Need-returns-5
-returns-5 c h =
-    let start = c.before.before.before.before in
-    let s = start.args.s in
+pub returns : goal.returns
+returns c h =
+    let s = c.args.s in
     let t = 261070 - s.e in
-    let f = fifty start.args.v s.m start.requires c.before.before.before.if1.false in
+    let f = fifty c.args.v s.m c.requires c.if-m-v-gt1.false in
     let z : s.m / 2 ^ t * 2 ^ t ≡ s.m = sym (back s.m t (omega (arith, f))) ∙ eqb-true _ s.m h in
-    doubled start.args.v start.requires s c.before.before.before.if1.false c.before.before.if2.false (zeros s.m t s.e 261070 z (omega arith))
-
-pub fits-spec : {M : Type 1} → statement M
-fits-spec =
-    tie.close
-    (tie.spec shr-if1 returns sub-if2 returns-2 returns-3 sub-below returns-4 shr-kept shl-result returns-5)
+    doubled c.args.v c.requires s c.if-m-v-gt1.false c.if-v-e.false (zeros s.m t s.e 261070 z (omega arith))
