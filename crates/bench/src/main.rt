@@ -2,80 +2,107 @@
 // the first word names (document 02, d), 32 where there is none, for the kind of table that the second names (document 02, h), 38 where there
 // is none. What a line says is proved (`answer_line`, `cut_line`), and what a word names (`line::width_of`, `line::kind_of`); the rest reads,
 // calls and writes.
+#![tactic(auto)]
+
 mod answer;
 
+ghost use Rattle.std.specs.Io.{ReadsAtMost};
 ghost use Rattle.line.specs.Line.{Within};
-ghost use Rattle.io.specs.Counts.{IsPrefixLen};
 
 use answer::{answer_line, cut_line};
-use libc::{STDIN_FILENO, STDOUT_FILENO};
 use line::Line;
+use std::env::FillError;
+use std::fs::File;
+use std::io;
+use std::io::{Read, Write};
+use std::rt::{Env, Files};
 
-fn main() {
+fn main(rt: HostRuntime) -> io::Result<()> {
     let mut table = [0u8; 769];
-    let length = read_table(&mut table);
-    answer_all(width(), kind(), &table[..length]);
+    let length = read_table(&rt, &mut table)?;
+    let mut input = rt.stdin();
+    let mut output = rt.stdout();
+    answer_all(
+        &mut input,
+        &mut output,
+        width(&rt),
+        kind(&rt),
+        &table[..length],
+    )
 }
 
 // A word of more than two bytes counts as empty: it names no width either, and every proposal gets 19.
-fn width() -> u64 {
-    if os::arg_count() < 2 {
-        return 32;
-    }
+fn width(rt: &impl Env) -> u64 {
     let mut word = [0u8; 2];
-    let length = os::arg(1, &mut word);
-    line::width_of(&word[..length])
+    match rt.arg(1, &mut word) {
+        Ok(length) => line::width_of(&word[..length]),
+        Err(FillError::TooLong) => line::width_of(b""),
+        Err(FillError::NotPresent) => 32,
+    }
 }
 
 // The same for the kind, and 29.
-fn kind() -> u64 {
-    if os::arg_count() < 3 {
-        return 38;
-    }
+fn kind(rt: &impl Env) -> u64 {
     let mut word = [0u8; 2];
-    let length = os::arg(2, &mut word);
-    line::kind_of(&word[..length])
+    match rt.arg(2, &mut word) {
+        Ok(length) => line::kind_of(&word[..length]),
+        Err(FillError::TooLong) => line::kind_of(b""),
+        Err(FillError::NotPresent) => 38,
+    }
 }
 
 // The table's bytes, and how many there are: none where there is no file, 769 where it is longer than any sound table.
-fn read_table(table: &mut [u8]) -> usize
-    ensures { IsPrefixLen result table.new }
+fn read_table(files: &impl Files, table: &mut [u8]) -> io::Result<usize>
+    ensures { ReadsAtMost result table.new }
 {
-    let file = os::open_read(b"terms.bin");
-    if file < 0 {
-        return 0;
+    match File::open(files, "terms.bin") {
+        Ok(mut file) => intake::fill(&mut file, table),
+        Err(_) => Ok(0),
     }
-    let length = io::read_full(file, table);
-    libc::close(file);
-    length
 }
 
 // A proved loop has to end, and nothing says that the input does: the count's own end, which no run meets, is the last.
-fn answer_all(width: u64, kind: u64, table: &[u8]) {
-    let mut count: u64 = 1;
-    while count < u64::MAX && answer_one(width, kind, table, count) {
-        count += 1;
+fn answer_all<R: Read, W: Write>(
+    input: &mut R,
+    output: &mut W,
+    width: u64,
+    kind: u64,
+    table: &[u8],
+) -> io::Result<()> {
+    for count in 1..u64::MAX {
+        if !answer_one(input, output, width, kind, table, count)? {
+            break;
+        }
     }
+    Ok(())
 }
 
 // One proposal, from as many pieces as the input comes in. Answers whether another may follow.
-fn answer_one(width: u64, kind: u64, table: &[u8], count: u64) -> bool {
+fn answer_one<R: Read, W: Write>(
+    input: &mut R,
+    output: &mut W,
+    width: u64,
+    kind: u64,
+    table: &[u8],
+    count: u64,
+) -> io::Result<bool> {
     let mut proposal = [0u8; 40];
-    let got = io::read_full(STDIN_FILENO, &mut proposal);
+    let got = intake::fill(input, &mut proposal)?;
     if got == 0 {
-        return false;
+        return Ok(false);
     }
     if got < 40 {
-        write_line(cut_line(count));
-        return false;
+        write_line(output, cut_line(count))?;
+        return Ok(false);
     }
-    write_line(answer_line(width, kind, table, count, &proposal))
+    write_line(output, answer_line(width, kind, table, count, &proposal))?;
+    Ok(true)
 }
 
-fn write_line(line: Line) -> bool
+fn write_line<W: Write>(output: &mut W, line: Line) -> io::Result<()>
     requires { Within line }
 {
     let bytes = line.bytes;
     let len = line.len;
-    io::write_all(STDOUT_FILENO, &bytes[..len])
+    output.write_all(&bytes[..len])
 }

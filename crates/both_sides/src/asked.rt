@@ -1,77 +1,105 @@
 // One case through one public function of `verdict`. Its line: the width, who is asked and the case's label, then the number, the place, and
 // the ends as 16 hexadecimal digits each.
-use libc::STDOUT_FILENO;
+use std::io;
+use std::io::Write;
 use verdict::State;
 
 // A line's front, for a case that is about a table.
-pub fn named(width: u64, who: &[u8], label: &[u8]) {
-    front(width, who);
-    io::write_all(STDOUT_FILENO, b", ");
-    io::write_all(STDOUT_FILENO, label);
-    io::write_all(STDOUT_FILENO, b":");
+pub fn named<W: Write>(output: &mut W, width: u64, who: &str, label: &str) -> io::Result<()> {
+    write!(output, "{width} {who}, {label}:")
 }
 
 // The same for a case that is about an f64, whose bits stand behind the label.
-pub fn valued(width: u64, who: &[u8], label: &[u8], bits: u64) {
-    front(width, who);
-    io::write_all(STDOUT_FILENO, b", ");
-    io::write_all(STDOUT_FILENO, label);
-    io::write_all(STDOUT_FILENO, b" (");
-    words::first(bits);
-    io::write_all(STDOUT_FILENO, b"):");
-}
-
-fn front(width: u64, who: &[u8]) {
-    io::print_decimal(STDOUT_FILENO, width);
-    io::write_all(STDOUT_FILENO, b" ");
-    io::write_all(STDOUT_FILENO, who);
+pub fn valued<W: Write>(
+    output: &mut W,
+    width: u64,
+    who: &str,
+    label: &str,
+    bits: u64,
+) -> io::Result<()> {
+    write!(output, "{width} {who}, {label} ({bits:016x}):")
 }
 
 // The same for a kind other than 38, which stands behind the width.
-pub fn named_of(width: u64, kind: u64, who: &[u8], label: &[u8]) {
-    io::print_decimal(STDOUT_FILENO, width);
-    io::write_all(STDOUT_FILENO, b" ");
-    named(kind, who, label);
+pub fn named_of<W: Write>(
+    output: &mut W,
+    width: u64,
+    kind: u64,
+    who: &str,
+    label: &str,
+) -> io::Result<()> {
+    write!(output, "{width} ")?;
+    named(output, kind, who, label)
 }
 
-pub fn valued_of(width: u64, kind: u64, who: &[u8], label: &[u8], bits: u64) {
-    io::print_decimal(STDOUT_FILENO, width);
-    io::write_all(STDOUT_FILENO, b" ");
-    valued(kind, who, label, bits);
+pub fn valued_of<W: Write>(
+    output: &mut W,
+    width: u64,
+    kind: u64,
+    who: &str,
+    label: &str,
+    bits: u64,
+) -> io::Result<()> {
+    write!(output, "{width} ")?;
+    valued(output, kind, who, label, bits)
 }
 
 // A table of kind 38.
-pub fn sheet(width: u64, table: &[u8], temperature: f64, density: f64) {
-    sheet_of(width, 38, table, temperature, density);
+pub fn sheet<W: Write>(
+    output: &mut W,
+    width: u64,
+    table: &[u8],
+    temperature: f64,
+    density: f64,
+) -> io::Result<()> {
+    sheet_of(output, width, 38, table, temperature, density)
 }
 
-pub fn sheet_of(width: u64, kind: u64, table: &[u8], temperature: f64, density: f64) {
+pub fn sheet_of<W: Write>(
+    output: &mut W,
+    width: u64,
+    kind: u64,
+    table: &[u8],
+    temperature: f64,
+    density: f64,
+) -> io::Result<()> {
     let state = State {
         temperature,
         density,
     };
     let values = reading::of_sheet(verdict::state_sheet(width, kind, table, state));
-    whole(values[0]);
-    whole(values[1]);
-    words::next(values[2]);
-    words::next(values[3]);
-    words::next(values[4]);
-    words::next(values[5]);
-    words::end_line();
+    whole(output, values[0])?;
+    whole(output, values[1])?;
+    words::next(output, values[2])?;
+    words::next(output, values[3])?;
+    words::next(output, values[4])?;
+    words::next(output, values[5])?;
+    words::end_line(output)
 }
 
-pub fn density(
+pub fn density<W: Write>(
+    output: &mut W,
     width: u64,
     table: &[u8],
     temperature: f64,
     density: f64,
     target: f64,
     tolerance: f64,
-) {
-    density_of(width, 38, table, temperature, density, target, tolerance);
+) -> io::Result<()> {
+    density_of(
+        output,
+        width,
+        38,
+        table,
+        temperature,
+        density,
+        target,
+        tolerance,
+    )
 }
 
-pub fn density_of(
+pub fn density_of<W: Write>(
+    output: &mut W,
     width: u64,
     kind: u64,
     table: &[u8],
@@ -79,16 +107,17 @@ pub fn density_of(
     density: f64,
     target: f64,
     tolerance: f64,
-) {
+) -> io::Result<()> {
     let state = State {
         temperature,
         density,
     };
     let answer = verdict::density_check(width, kind, table, state, target, tolerance);
-    check(reading::of_check(answer));
+    check(output, reading::of_check(answer))
 }
 
-pub fn pair(
+pub fn pair<W: Write>(
+    output: &mut W,
     width: u64,
     table: &[u8],
     temperature: f64,
@@ -96,8 +125,9 @@ pub fn pair(
     vapour: f64,
     pressure_tolerance: f64,
     gibbs_tolerance: f64,
-) {
+) -> io::Result<()> {
     pair_of(
+        output,
         width,
         38,
         table,
@@ -106,10 +136,11 @@ pub fn pair(
         vapour,
         pressure_tolerance,
         gibbs_tolerance,
-    );
+    )
 }
 
-pub fn pair_of(
+pub fn pair_of<W: Write>(
+    output: &mut W,
     width: u64,
     kind: u64,
     table: &[u8],
@@ -118,7 +149,7 @@ pub fn pair_of(
     vapour: f64,
     pressure_tolerance: f64,
     gibbs_tolerance: f64,
-) {
+) -> io::Result<()> {
     let state = State {
         temperature,
         density: liquid,
@@ -132,18 +163,17 @@ pub fn pair_of(
         pressure_tolerance,
         gibbs_tolerance,
     );
-    check(reading::of_check(answer));
+    check(output, reading::of_check(answer))
 }
 
-fn check(values: [u64; 4]) {
-    whole(values[0]);
-    whole(values[1]);
-    words::next(values[2]);
-    words::next(values[3]);
-    words::end_line();
+fn check<W: Write>(output: &mut W, values: [u64; 4]) -> io::Result<()> {
+    whole(output, values[0])?;
+    whole(output, values[1])?;
+    words::next(output, values[2])?;
+    words::next(output, values[3])?;
+    words::end_line(output)
 }
 
-fn whole(n: u64) {
-    io::write_all(STDOUT_FILENO, b" ");
-    io::print_decimal(STDOUT_FILENO, n);
+fn whole<W: Write>(output: &mut W, n: u64) -> io::Result<()> {
+    write!(output, " {n}")
 }

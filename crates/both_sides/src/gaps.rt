@@ -1,129 +1,167 @@
 // Targets, tolerances, the sides of 322, and gaps and stiffnesses of exactly zero or the least f64 from it.
 use crate::double::double;
 use crate::{EASY, asked};
+use std::io;
+use std::io::Write;
 
-pub fn targets(width: u64) {
-    target(width, b"target 0", 0x0000000000000000);
-    target(width, b"target -0", 0x8000000000000000);
-    target(width, b"target next above 0", 0x0000000000000001);
-    target(width, b"target next under 0", 0x8000000000000001);
-    target(width, b"target -1", 0xBFF0000000000000);
-    target(width, b"target 10^9", 0x41CDCD6500000000);
-    target(width, b"target next above 10^9", 0x41CDCD6500000001);
-    target(width, b"target NaN", 0x7FF8000000000000);
-    target(width, b"target infinity", 0x7FF0000000000000);
-    target(width, b"target -infinity", 0xFFF0000000000000);
+pub fn targets<W: Write>(output: &mut W, width: u64) -> io::Result<()> {
+    target(output, width, "target 0", 0x0000000000000000)?;
+    target(output, width, "target -0", 0x8000000000000000)?;
+    target(output, width, "target next above 0", 0x0000000000000001)?;
+    target(output, width, "target next under 0", 0x8000000000000001)?;
+    target(output, width, "target -1", 0xBFF0000000000000)?;
+    target(output, width, "target 10^9", 0x41CDCD6500000000)?;
+    target(output, width, "target next above 10^9", 0x41CDCD6500000001)?;
+    target(output, width, "target NaN", 0x7FF8000000000000)?;
+    target(output, width, "target infinity", 0x7FF0000000000000)?;
+    target(output, width, "target -infinity", 0xFFF0000000000000)
 }
 
-fn target(width: u64, label: &[u8], bits: u64) {
-    asked::valued(width, b"density check", label, bits);
-    no_pressure(width, double(bits), 0.0);
+fn target<W: Write>(output: &mut W, width: u64, label: &str, bits: u64) -> io::Result<()> {
+    asked::valued(output, width, "density check", label, bits)?;
+    no_pressure(output, width, double(bits), 0.0)
 }
 
-pub fn tolerances(width: u64) {
-    tolerance(width, b"tolerance 0", 0x0000000000000000);
-    tolerance(width, b"tolerance -0", 0x8000000000000000);
-    tolerance(width, b"tolerance next above 0", 0x0000000000000001);
-    tolerance(width, b"tolerance next under 0", 0x8000000000000001);
-    tolerance(width, b"tolerance -1", 0xBFF0000000000000);
-    tolerance(width, b"tolerance 10^6", 0x412E848000000000);
-    tolerance(width, b"tolerance next above 10^6", 0x412E848000000001);
-    tolerance(width, b"tolerance NaN", 0x7FF8000000000000);
-    tolerance(width, b"tolerance infinity", 0x7FF0000000000000);
-    tolerance(width, b"tolerance -infinity", 0xFFF0000000000000);
+pub fn tolerances<W: Write>(output: &mut W, width: u64) -> io::Result<()> {
+    tolerance(output, width, "tolerance 0", 0x0000000000000000)?;
+    tolerance(output, width, "tolerance -0", 0x8000000000000000)?;
+    tolerance(output, width, "tolerance next above 0", 0x0000000000000001)?;
+    tolerance(output, width, "tolerance next under 0", 0x8000000000000001)?;
+    tolerance(output, width, "tolerance -1", 0xBFF0000000000000)?;
+    tolerance(output, width, "tolerance 10^6", 0x412E848000000000)?;
+    tolerance(
+        output,
+        width,
+        "tolerance next above 10^6",
+        0x412E848000000001,
+    )?;
+    tolerance(output, width, "tolerance NaN", 0x7FF8000000000000)?;
+    tolerance(output, width, "tolerance infinity", 0x7FF0000000000000)?;
+    tolerance(output, width, "tolerance -infinity", 0xFFF0000000000000)
 }
 
-fn tolerance(width: u64, label: &[u8], bits: u64) {
+fn tolerance<W: Write>(output: &mut W, width: u64, label: &str, bits: u64) -> io::Result<()> {
     let most = double(bits);
-    asked::valued(width, b"density check", label, bits);
-    no_pressure(width, 0.0, most);
-    asked::valued(width, b"pair check's pressure", label, bits);
-    asked::pair(width, &EASY, 300.0, 322.125, 321.875, most, 1000000.0);
-    asked::valued(width, b"pair check's Gibbs energy", label, bits);
-    asked::pair(width, &EASY, 300.0, 322.125, 321.875, 1000000.0, most);
+    asked::valued(output, width, "density check", label, bits)?;
+    no_pressure(output, width, 0.0, most)?;
+    asked::valued(output, width, "pair check's pressure", label, bits)?;
+    asked::pair(
+        output, width, &EASY, 300.0, 322.125, 321.875, most, 1000000.0,
+    )?;
+    asked::valued(output, width, "pair check's Gibbs energy", label, bits)?;
+    asked::pair(
+        output, width, &EASY, 300.0, 322.125, 321.875, 1000000.0, most,
+    )
 }
 
 // Two terms with t 0, d 1 and 2, coefficients -3 and 1: at density 322 pressure is exactly zero, and stiffness is above it.
-fn no_pressure(width: u64, target: f64, tolerance: f64) {
+fn no_pressure<W: Write>(
+    output: &mut W,
+    width: u64,
+    target: f64,
+    tolerance: f64,
+) -> io::Result<()> {
     let table = b"\x04\x10\x6a\x94\xd7\x4f\x43\x00\x00\x08\x00\x23\x86\xf2\x6f\xc1\x00\x00";
-    asked::density(width, table, 300.0, 322.0, target, tolerance);
+    asked::density(output, width, table, 300.0, 322.0, target, tolerance)
 }
 
-pub fn sides(width: u64) {
-    liquid(width, b"liquid 322", 0x4074200000000000);
-    liquid(width, b"liquid next above 322", 0x4074200000000001);
-    vapour(width, b"vapour 322", 0x4074200000000000);
-    vapour(width, b"vapour next under 322", 0x40741FFFFFFFFFFF);
+pub fn sides<W: Write>(output: &mut W, width: u64) -> io::Result<()> {
+    liquid(output, width, "liquid 322", 0x4074200000000000)?;
+    liquid(output, width, "liquid next above 322", 0x4074200000000001)?;
+    vapour(output, width, "vapour 322", 0x4074200000000000)?;
+    vapour(output, width, "vapour next under 322", 0x40741FFFFFFFFFFF)
 }
 
-fn liquid(width: u64, label: &[u8], bits: u64) {
+fn liquid<W: Write>(output: &mut W, width: u64, label: &str, bits: u64) -> io::Result<()> {
     let rho = double(bits);
-    asked::valued(width, b"pair check", label, bits);
-    asked::pair(width, &EASY, 300.0, rho, 321.875, 1000000.0, 1000000.0);
+    asked::valued(output, width, "pair check", label, bits)?;
+    asked::pair(
+        output, width, &EASY, 300.0, rho, 321.875, 1000000.0, 1000000.0,
+    )
 }
 
-fn vapour(width: u64, label: &[u8], bits: u64) {
+fn vapour<W: Write>(output: &mut W, width: u64, label: &str, bits: u64) -> io::Result<()> {
     let rho = double(bits);
-    asked::valued(width, b"pair check", label, bits);
-    asked::pair(width, &EASY, 300.0, 322.125, rho, 1000000.0, 1000000.0);
+    asked::valued(output, width, "pair check", label, bits)?;
+    asked::pair(
+        output, width, &EASY, 300.0, 322.125, rho, 1000000.0, 1000000.0,
+    )
 }
 
 // The gap is minus the target, down to the least f64 of all.
-pub fn least_gaps(width: u64) {
+pub fn least_gaps<W: Write>(output: &mut W, width: u64) -> io::Result<()> {
     let least = double(1);
-    least_gap(width, b"gap of 0, tolerance 0", 0.0, 0.0);
-    least_gap(width, b"gap of -2^-1074, tolerance 0", least, 0.0);
-    least_gap(width, b"gap of -2^-1074, tolerance 2^-1074", least, least);
+    least_gap(output, width, "gap of 0, tolerance 0", 0.0, 0.0)?;
+    least_gap(output, width, "gap of -2^-1074, tolerance 0", least, 0.0)?;
+    least_gap(
+        output,
+        width,
+        "gap of -2^-1074, tolerance 2^-1074",
+        least,
+        least,
+    )
 }
 
 // One term c 0, d 1, t 0 with coefficient -1: at density 322 pressure is exactly zero, and stiffness below it.
-fn least_gap(width: u64, label: &[u8], target: f64, tolerance: f64) {
+fn least_gap<W: Write>(
+    output: &mut W,
+    width: u64,
+    label: &str,
+    target: f64,
+    tolerance: f64,
+) -> io::Result<()> {
     let table = b"\x04\x10\x23\x86\xf2\x6f\xc1\x00\x00";
-    asked::named(width, b"density check", label);
-    asked::density(width, table, 300.0, 322.0, target, tolerance);
+    asked::named(output, width, "density check", label)?;
+    asked::density(output, width, table, 300.0, 322.0, target, tolerance)
 }
 
 // One term c 0, d 1, t 0: with coefficient -1/2 at density 322, or -1 at 161, stiffness is exactly zero; with the next two its lower end is,
 // and is not, at one width or the other.
-pub fn stiffnesses(width: u64) {
+pub fn stiffnesses<W: Write>(output: &mut W, width: u64) -> io::Result<()> {
     stiffness(
+        output,
         width,
-        b"stiffness 0",
+        "stiffness 0",
         b"\x04\x10\x11\xc3\x79\x37\xe0\x80\x00",
-    );
+    )?;
     stiffness(
+        output,
         width,
-        b"stiffness down to 0 at 32",
+        "stiffness down to 0 at 32",
         b"\x04\x10\x11\xc3\x79\x37\xce\xbc\x87",
-    );
+    )?;
     stiffness(
+        output,
         width,
-        b"stiffness above 0 at 32",
+        "stiffness above 0 at 32",
         b"\x04\x10\x11\xc3\x79\x37\xce\xbc\x86",
-    );
+    )?;
     half_density(
+        output,
         width,
-        b"stiffness 0 at half the density",
+        "stiffness 0 at half the density",
         b"\x04\x10\x23\x86\xf2\x6f\xc1\x00\x00",
-    );
+    )?;
     half_density(
+        output,
         width,
-        b"stiffness down to 0 at 53",
+        "stiffness down to 0 at 53",
         b"\x04\x10\x23\x86\xf2\x6f\xc0\xff\xff",
-    );
+    )?;
     half_density(
+        output,
         width,
-        b"stiffness above 0 at 53",
+        "stiffness above 0 at 53",
         b"\x04\x10\x23\x86\xf2\x6f\xc0\xff\xfe",
-    );
+    )
 }
 
-fn stiffness(width: u64, label: &[u8], table: &[u8]) {
-    asked::named(width, b"density check", label);
-    asked::density(width, table, 300.0, 322.0, 22000000.0, 1000000.0);
+fn stiffness<W: Write>(output: &mut W, width: u64, label: &str, table: &[u8]) -> io::Result<()> {
+    asked::named(output, width, "density check", label)?;
+    asked::density(output, width, table, 300.0, 322.0, 22000000.0, 1000000.0)
 }
 
-fn half_density(width: u64, label: &[u8], table: &[u8]) {
-    asked::named(width, b"density check", label);
-    asked::density(width, table, 300.0, 161.0, 11000000.0, 1000000.0);
+fn half_density<W: Write>(output: &mut W, width: u64, label: &str, table: &[u8]) -> io::Result<()> {
+    asked::named(output, width, "density check", label)?;
+    asked::density(output, width, table, 300.0, 161.0, 11000000.0, 1000000.0)
 }

@@ -2,6 +2,8 @@
 // bits (d), and widths that are neither; and the limits of kind 58 with kinds that are neither (h), through the public functions of
 // `verdict`: a line for each case. The stored output is the second program's (second/tests/test_both_sides.py, which also says the order),
 // so nothing here judges an answer.
+#![tactic(auto)]
+
 mod asked; // asked.rt: one case through one function, and its line
 mod double; // double.rt: f64s by their bits
 mod kinds; // kinds.rt: the limits of kind 58, and kinds that are neither
@@ -11,58 +13,62 @@ mod tables; // tables.rt: tables, terms and the ceiling
 mod vapours; // vapours.rt: vapours about zero pressure, and the odd table
 mod widths; // widths.rt: widths that are neither 32 nor 53
 
+use std::io;
+use std::io::Write;
+
 // One term c 0, d 1, t 0 with coefficient 1/1000: what is asked with it is accepted, unless the case is about something else.
 pub const EASY: [u8; 9] = [4, 0, 0, 9, 24, 78, 114, 160, 0];
 
-fn main() {
-    at(32);
-    at(53);
-    widths::none(0);
-    widths::none(31);
-    widths::none(33);
-    widths::none(52);
-    widths::none(54);
-    widths::none(4294967328);
-    widths::none(18446744073709551615);
-    of_kind_58(32);
-    of_kind_58(53);
-    no_kinds(32);
-    no_kinds(53);
+fn main(rt: HostRuntime) -> io::Result<()> {
+    let mut output = rt.stdout();
+    at(&mut output, 32)?;
+    at(&mut output, 53)?;
+    widths::none(&mut output, 0)?;
+    widths::none(&mut output, 31)?;
+    widths::none(&mut output, 33)?;
+    widths::none(&mut output, 52)?;
+    widths::none(&mut output, 54)?;
+    widths::none(&mut output, 4294967328)?;
+    widths::none(&mut output, 18446744073709551615)?;
+    of_kind_58(&mut output, 32)?;
+    of_kind_58(&mut output, 53)?;
+    no_kinds(&mut output, 32)?;
+    no_kinds(&mut output, 53)
 }
 
-fn of_kind_58(width: u64) {
-    kinds::temperatures(width);
-    kinds::densities(width);
-    kinds::lengths(width);
-    kinds::terms(width);
-    kinds::ceilings(width);
-    kinds::targets(width);
+fn of_kind_58<W: Write>(output: &mut W, width: u64) -> io::Result<()> {
+    kinds::temperatures(output, width)?;
+    kinds::densities(output, width)?;
+    kinds::lengths(output, width)?;
+    kinds::terms(output, width)?;
+    kinds::ceilings(output, width)?;
+    kinds::targets(output, width)
 }
 
-fn no_kinds(width: u64) {
-    kinds::none(width, 0);
-    kinds::none(width, 37);
-    kinds::none(width, 39);
-    kinds::none(width, 57);
-    kinds::none(width, 59);
-    kinds::none(width, 60);
-    kinds::none(width, 580);
-    kinds::none(width, 4294967334);
-    kinds::none(width, 18446744073709551615);
+fn no_kinds<W: Write>(output: &mut W, width: u64) -> io::Result<()> {
+    kinds::none(output, width, 0)?;
+    kinds::none(output, width, 37)?;
+    kinds::none(output, width, 39)?;
+    kinds::none(output, width, 57)?;
+    kinds::none(output, width, 59)?;
+    kinds::none(output, width, 60)?;
+    kinds::none(output, width, 580)?;
+    kinds::none(output, width, 4294967334)?;
+    kinds::none(output, width, 18446744073709551615)
 }
 
-fn at(width: u64) {
-    states::temperatures(width);
-    states::densities(width);
-    tables::lengths(width);
-    tables::terms(width);
-    tables::ceilings(width);
-    tables::empty(width);
-    gaps::targets(width);
-    gaps::tolerances(width);
-    gaps::sides(width);
-    gaps::least_gaps(width);
-    gaps::stiffnesses(width);
-    vapours::about_zero(width);
-    vapours::odd(width);
+fn at<W: Write>(output: &mut W, width: u64) -> io::Result<()> {
+    states::temperatures(output, width)?;
+    states::densities(output, width)?;
+    tables::lengths(output, width)?;
+    tables::terms(output, width)?;
+    tables::ceilings(output, width)?;
+    tables::empty(output, width)?;
+    gaps::targets(output, width)?;
+    gaps::tolerances(output, width)?;
+    gaps::sides(output, width)?;
+    gaps::least_gaps(output, width)?;
+    gaps::stiffnesses(output, width)?;
+    vapours::about_zero(output, width)?;
+    vapours::odd(output, width)
 }

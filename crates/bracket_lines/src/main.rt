@@ -1,11 +1,15 @@
 // Reads operations on brackets from standard input and writes each result as a line, for a comparison bit for bit. A record is 15 words:
 // the width (32 or 53), the operation (0 sum, 1 difference, 2 product, 3 quotient, 4 power), the power's exponent, and two brackets of two
 // sheet numbers. A line is the result's six words. What no operation takes, or no width, is answered by zeros. Assumes nothing.
+#![tactic(auto)]
+
 ghost use Rattle.std.specs.Prelude.{◌≡◌, true};
 ghost use Rattle.sheet.specs.Range.{Width};
 ghost use Rattle.bracket.specs.Held.{Held};
 
 use bracket::Bracket;
+use std::io;
+use std::io::{Read, Write};
 
 // Whether the operations take the bracket.
 fn held(v: u64, b: Bracket) -> bool
@@ -91,10 +95,10 @@ fn answer_at(width: u64, operation: u64, n: u64, a: Bracket, b: Bracket) -> Brac
 }
 
 // One record is read and answered; false where the input has ended.
-fn turn() -> bool {
+fn turn<R: Read, W: Write>(input: &mut R, output: &mut W) -> io::Result<bool> {
     let mut r = [0u64; 15];
-    if !words::read(&mut r) {
-        return false;
+    if !words::read(input, &mut r)? {
+        return Ok(false);
     }
     let a = Bracket {
         lo: words::number(r[3], r[4], r[5]),
@@ -105,15 +109,20 @@ fn turn() -> bool {
         hi: words::number(r[12], r[13], r[14]),
     };
     let x = answer_at(r[0], r[1], r[2], a, b);
-    words::first_number(x.lo);
-    words::next_number(x.hi);
-    words::end_line()
+    words::first_number(output, x.lo)?;
+    words::next_number(output, x.hi)?;
+    words::end_line(output)?;
+    Ok(true)
 }
 
-// A proved loop has to end, so it counts its turns down from a number that no run uses up.
-fn main() {
-    let mut turns = u64::MAX;
-    while turns > 0 && turn() {
-        turns -= 1;
+// A proved loop has to end, so it makes at most as many turns as no run uses up.
+fn main(rt: HostRuntime) -> io::Result<()> {
+    let mut input = rt.stdin();
+    let mut output = rt.stdout();
+    for _ in 0..u64::MAX {
+        if !turn(&mut input, &mut output)? {
+            break;
+        }
     }
+    Ok(())
 }

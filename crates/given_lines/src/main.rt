@@ -2,11 +2,15 @@
 // bit. A record is eight words, the width (32 or 53), the kind and six more, of which some are not used. Kinds: 0 a fraction (sign, numerator,
 // divisor), 1 an f64 (its bits), 2 a whole number: the line is its bracket, six words; 3 a sheet number: the line is its f64's bits; 4 two
 // sheet numbers: 1 if the first is at most the second, else 0. What no function takes, or no width, is answered by zeros. Assumes nothing.
+#![tactic(auto)]
+
 ghost use Rattle.std.specs.Prelude.{◌≡◌, true, ◌<◌, ◌^◌};
 ghost use Rattle.sheet.specs.Range.{Width, Doubled};
 
 use bracket::Bracket;
 use sheet::Sheet;
+use std::io;
+use std::io::{Read, Write};
 
 fn none() -> Bracket {
     let zero = words::zero();
@@ -118,34 +122,39 @@ fn at_most_at(width: u64, a: Sheet, b: Sheet) -> u64 {
     0
 }
 
-fn write_bracket(b: Bracket) {
-    words::first_number(b.lo);
-    words::next_number(b.hi);
+fn write_bracket<W: Write>(output: &mut W, b: Bracket) -> io::Result<()> {
+    words::first_number(output, b.lo)?;
+    words::next_number(output, b.hi)
 }
 
 // One record is read and answered; false where the input has ended.
-fn turn() -> bool {
+fn turn<R: Read, W: Write>(input: &mut R, output: &mut W) -> io::Result<bool> {
     let mut r = [0u64; 8];
-    if !words::read(&mut r) {
-        return false;
+    if !words::read(input, &mut r)? {
+        return Ok(false);
     }
     let kind = r[1];
     let a = words::number(r[2], r[3], r[4]);
     let b = words::number(r[5], r[6], r[7]);
     if kind < 3 {
-        write_bracket(bracket_at(r[0], kind, r[2], r[3], r[4]));
+        write_bracket(output, bracket_at(r[0], kind, r[2], r[3], r[4]))?;
     } else if kind == 3 {
-        words::first(bits_of(r[0], a));
+        words::first(output, bits_of(r[0], a))?;
     } else {
-        words::first(at_most_at(r[0], a, b));
+        words::first(output, at_most_at(r[0], a, b))?;
     }
-    words::end_line()
+    words::end_line(output)?;
+    Ok(true)
 }
 
-// A proved loop has to end, so it counts its turns down from a number that no run uses up.
-fn main() {
-    let mut turns = u64::MAX;
-    while turns > 0 && turn() {
-        turns -= 1;
+// A proved loop has to end, so it makes at most as many turns as no run uses up.
+fn main(rt: HostRuntime) -> io::Result<()> {
+    let mut input = rt.stdin();
+    let mut output = rt.stdout();
+    for _ in 0..u64::MAX {
+        if !turn(&mut input, &mut output)? {
+            break;
+        }
     }
+    Ok(())
 }

@@ -2,6 +2,8 @@
 // words: the width (32 or 53), and 0 and a bracket of two sheet numbers for the exponential of minus it; or 1, two f64s, a liquid's density
 // and a vapour's, and four words of zero for the logarithm of their ratio. A line is the result's six words. What the series do not take, or
 // no width, is answered by zeros. Assumes nothing.
+#![tactic(auto)]
+
 ghost use Rattle.std.specs.Prelude.{◌≡◌, true};
 ghost use Rattle.sheet.specs.Range.{Width};
 ghost use Rattle.bracket.specs.Held.{Held};
@@ -11,6 +13,8 @@ ghost use Rattle.series_lines.specs.End.{End};
 
 use bracket::Bracket;
 use sheet::Sheet;
+use std::io;
+use std::io::{Read, Write};
 
 // Whether the number is an end that the exponential takes: zero, or from 2^-292 to 128, which are 2^v at the places 261852 - v and 262151 - v.
 fn usable(v: u64, s: Sheet) -> bool
@@ -105,31 +109,36 @@ fn density(w: u64) -> f64 {
     }
 }
 
-fn write_bracket(b: Bracket) {
-    words::first_number(b.lo);
-    words::next_number(b.hi);
+fn write_bracket<W: Write>(output: &mut W, b: Bracket) -> io::Result<()> {
+    words::first_number(output, b.lo)?;
+    words::next_number(output, b.hi)
 }
 
 // One record is read and answered; false where the input has ended.
-fn turn() -> bool {
+fn turn<R: Read, W: Write>(input: &mut R, output: &mut W) -> io::Result<bool> {
     let mut r = [0u64; 8];
-    if !words::read(&mut r) {
-        return false;
+    if !words::read(input, &mut r)? {
+        return Ok(false);
     }
     if r[1] == 0 {
         let lo = words::number(r[2], r[3], r[4]);
         let hi = words::number(r[5], r[6], r[7]);
-        write_bracket(exponential_at(r[0], Bracket { lo, hi }));
+        write_bracket(output, exponential_at(r[0], Bracket { lo, hi }))?;
     } else {
-        write_bracket(logarithm_at(r[0], density(r[2]), density(r[3])));
+        write_bracket(output, logarithm_at(r[0], density(r[2]), density(r[3])))?;
     }
-    words::end_line()
+    words::end_line(output)?;
+    Ok(true)
 }
 
-// A proved loop has to end, so it counts its turns down from a number that no run uses up.
-fn main() {
-    let mut turns = u64::MAX;
-    while turns > 0 && turn() {
-        turns -= 1;
+// A proved loop has to end, so it makes at most as many turns as no run uses up.
+fn main(rt: HostRuntime) -> io::Result<()> {
+    let mut input = rt.stdin();
+    let mut output = rt.stdout();
+    for _ in 0..u64::MAX {
+        if !turn(&mut input, &mut output)? {
+            break;
+        }
     }
+    Ok(())
 }

@@ -1,9 +1,13 @@
 // Reads single operations on sheet numbers from standard input and writes each result as a line, for a comparison bit for bit. A record is
 // nine words: the width (32 or 53), the operation (0 sum, 1 difference, 2 product, 3 quotient), the direction (0 down, 1 up), and two sheet
 // numbers. A line is the result's three words. What no operation takes, or no width, is answered by zeros. Assumes nothing.
+#![tactic(auto)]
+
 ghost use Rattle.sheet.specs.Range.{Width, InRange};
 
 use sheet::Sheet;
+use std::io;
+use std::io::{Read, Write};
 
 // A quotient needs a divisor above zero.
 fn divided(v: u64, up: bool, a: Sheet, b: Sheet) -> Sheet
@@ -46,21 +50,26 @@ fn answer_at(width: u64, operation: u64, up: bool, a: Sheet, b: Sheet) -> Sheet 
 }
 
 // One record is read and answered; false where the input has ended.
-fn turn() -> bool {
+fn turn<R: Read, W: Write>(input: &mut R, output: &mut W) -> io::Result<bool> {
     let mut r = [0u64; 9];
-    if !words::read(&mut r) {
-        return false;
+    if !words::read(input, &mut r)? {
+        return Ok(false);
     }
     let a = words::number(r[3], r[4], r[5]);
     let b = words::number(r[6], r[7], r[8]);
-    words::first_number(answer_at(r[0], r[1], r[2] == 1, a, b));
-    words::end_line()
+    words::first_number(output, answer_at(r[0], r[1], r[2] == 1, a, b))?;
+    words::end_line(output)?;
+    Ok(true)
 }
 
-// A proved loop has to end, so it counts its turns down from a number that no run uses up.
-fn main() {
-    let mut turns = u64::MAX;
-    while turns > 0 && turn() {
-        turns -= 1;
+// A proved loop has to end, so it makes at most as many turns as no run uses up.
+fn main(rt: HostRuntime) -> io::Result<()> {
+    let mut input = rt.stdin();
+    let mut output = rt.stdout();
+    for _ in 0..u64::MAX {
+        if !turn(&mut input, &mut output)? {
+            break;
+        }
     }
+    Ok(())
 }

@@ -1,86 +1,102 @@
 // Reads tables from standard input and writes a line of words for each: the check's number, the place, and the fields of
 // each term of a sound table. A table is its kind and its length as words, then its bytes, then zero bytes up to a multiple of eight;
 // at most 800 bytes. Assumes nothing.
+#![tactic(auto)]
+
 ghost use Rattle.std.specs.Prelude.{◌≤◌, length};
 ghost use Rattle.term.specs.Packed.{count_terms};
 
-use libc::STDIN_FILENO;
+use std::io;
+use std::io::{Read, Write};
 use term::{Table, Term};
 
-fn write_term(term: Term) {
-    words::next(term.c);
-    words::next(term.factor);
-    words::next(term.d);
-    words::next(term.t);
-    words::next(words::flag(term.negative));
-    words::next(term.magnitude);
+fn write_term<W: Write>(output: &mut W, term: Term) -> io::Result<()> {
+    words::next(output, term.c)?;
+    words::next(output, term.factor)?;
+    words::next(output, term.d)?;
+    words::next(output, term.t)?;
+    words::next(output, words::flag(term.negative))?;
+    words::next(output, term.magnitude)
 }
 
-fn write_terms(kind: u64, table: &[u8], count: usize)
+fn write_terms<W: Write>(output: &mut W, kind: u64, table: &[u8], count: usize) -> io::Result<()>
     requires { (count ≤ count_terms kind table.now) × (length table.now ≤ 768) }
 {
     let mut k: usize = 0;
     while k < count {
-        write_term(term::term_at(kind, table, k));
+        write_term(output, term::term_at(kind, table, k))?;
         k += 1;
     }
+    Ok(())
 }
 
-fn write_line(kind: u64, table: &[u8]) {
+fn write_line<W: Write>(output: &mut W, kind: u64, table: &[u8]) -> io::Result<()> {
     let answer = term::check_table(kind, table);
     match answer {
         Table::Sound(count) => {
-            words::first(0);
-            words::next(0);
-            write_terms(kind, table, count);
+            words::first(output, 0)?;
+            words::next(output, 0)?;
+            write_terms(output, kind, table, count)?;
         }
         Table::Length => {
-            words::first(1);
-            words::next(0);
+            words::first(output, 1)?;
+            words::next(output, 0)?;
         }
         Table::Broken(place) => {
-            words::first(2);
-            words::next(place as u64);
+            words::first(output, 2)?;
+            words::next(output, place as u64)?;
         }
     }
-    words::end_line();
+    words::end_line(output)
 }
 
 // Reads a table of `count` bytes with its padding into the buffer and answers it, and whether it was there whole.
-fn read_table(kind: u64, buffer: &mut [u8], count: usize) -> bool
+fn read_table<R: Read, W: Write>(
+    input: &mut R,
+    output: &mut W,
+    kind: u64,
+    buffer: &mut [u8],
+    count: usize,
+) -> io::Result<bool>
     requires { (count ≤ 800) × (800 ≤ length buffer.old) }
 {
     let padded = (count + 7) / 8 * 8;
-    if io::read_full(STDIN_FILENO, &mut buffer[..padded]) < padded {
-        return false;
+    if intake::fill(input, &mut buffer[..padded])? < padded {
+        return Ok(false);
     }
-    write_line(kind, &buffer[..count]);
-    true
+    write_line(output, kind, &buffer[..count])?;
+    Ok(true)
 }
 
-fn one_table(kind: u64, count: u64) -> bool {
+fn one_table<R: Read, W: Write>(
+    input: &mut R,
+    output: &mut W,
+    kind: u64,
+    count: u64,
+) -> io::Result<bool> {
     if 800 < count {
-        return false;
+        return Ok(false);
     }
     let mut buffer = [0u8; 800];
-    read_table(kind, &mut buffer, count as usize)
+    read_table(input, output, kind, &mut buffer, count as usize)
 }
 
 // Answers one record, and whether there was one.
-fn one_record() -> bool {
+fn one_record<R: Read, W: Write>(input: &mut R, output: &mut W) -> io::Result<bool> {
     let mut head = [0u64; 2];
-    if words::read(&mut head) {
-        return one_table(head[0], head[1]);
+    if words::read(input, &mut head)? {
+        return one_table(input, output, head[0], head[1]);
     }
-    false
+    Ok(false)
 }
 
-fn main() {
-    let mut left: u64 = 1_000_000_000;
-    while 0 < left {
-        if !one_record() {
-            return;
+fn main(rt: HostRuntime) -> io::Result<()> {
+    let mut input = rt.stdin();
+    let mut output = rt.stdout();
+    for _ in 0..1_000_000_000u64 {
+        if !one_record(&mut input, &mut output)? {
+            break;
         }
-        left -= 1;
     }
+    Ok(())
 }

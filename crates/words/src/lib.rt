@@ -1,12 +1,15 @@
 // Words on their way in and out of the programs that the comparisons run: eight bytes in, most significant first, 16 hexadecimal digits out;
 // a width, 32 or 53; and sheet numbers of three words, sign, digits and place. Assumes nothing.
+#![tactic(auto)]
+
 ghost use Rattle.std.specs.Prelude.{◌≡◌, true, ◌<◌};
 ghost use Rattle.exact.specs.Fraction.{nat, ◌≺◌};
 ghost use Rattle.sheet.specs.Number.{value};
 ghost use Rattle.sheet.specs.Range.{Width, InRange};
 
-use libc::{STDIN_FILENO, STDOUT_FILENO};
 use sheet::Sheet;
+use std::io;
+use std::io::{Read, Write};
 
 fn wide(x: u8) -> u64 {
     x as u64
@@ -23,33 +26,32 @@ fn word_of(eight: &[u8; 8]) -> u64 {
 }
 
 // Fills the slice with the next words of the input, and answers whether they were all there.
-pub fn read(words: &mut [u64]) -> bool {
+pub fn read<R: Read>(input: &mut R, words: &mut [u64]) -> io::Result<bool> {
     let mut i: usize = 0;
     while i < words.len() {
         let mut eight = [0u8; 8];
-        if io::read_full(STDIN_FILENO, &mut eight) < 8 {
-            return false;
+        if intake::fill(input, &mut eight)? < 8 {
+            return Ok(false);
         }
         words[i] = word_of(&eight);
         i += 1;
     }
-    true
+    Ok(true)
 }
 
 // The first word of a line.
-pub fn first(w: u64) {
-    io::print_hex(STDOUT_FILENO, w, 16);
+pub fn first<W: Write>(output: &mut W, w: u64) -> io::Result<()> {
+    write!(output, "{w:016x}")
 }
 
 // One word more on a line.
-pub fn next(w: u64) {
-    io::write_all(STDOUT_FILENO, b" ");
-    first(w);
+pub fn next<W: Write>(output: &mut W, w: u64) -> io::Result<()> {
+    write!(output, " {w:016x}")
 }
 
-// Ends a line, and answers whether it was written.
-pub fn end_line() -> bool {
-    io::write_all(STDOUT_FILENO, b"\n")
+// Ends a line.
+pub fn end_line<W: Write>(output: &mut W) -> io::Result<()> {
+    writeln!(output)
 }
 
 // A sign as a word.
@@ -58,17 +60,17 @@ pub fn flag(b: bool) -> u64 {
 }
 
 // A sheet number's three words at the front of a line.
-pub fn first_number(s: Sheet) {
-    first(flag(s.neg));
-    next(s.m);
-    next(s.e);
+pub fn first_number<W: Write>(output: &mut W, s: Sheet) -> io::Result<()> {
+    first(output, flag(s.neg))?;
+    next(output, s.m)?;
+    next(output, s.e)
 }
 
 // Three words more on a line.
-pub fn next_number(s: Sheet) {
-    next(flag(s.neg));
-    next(s.m);
-    next(s.e);
+pub fn next_number<W: Write>(output: &mut W, s: Sheet) -> io::Result<()> {
+    next(output, flag(s.neg))?;
+    next(output, s.m)?;
+    next(output, s.e)
 }
 
 pub fn number(neg: u64, m: u64, e: u64) -> Sheet {

@@ -1,0 +1,22 @@
+-- A read puts its bytes behind those that are there.
+use Rattle.std.proofs.Common.{◌≡◌, ℕ, ◌+◌, ◌-◌, ◌≤◌, List, ◌++◌, rules, length, take, sym, ap, ◌∙◌, subst, le_refl, drop, drop_at, length-take-le}
+use Rattle.std.proofs.lemmas.Slice.{take-put_mid_below}
+use Rattle.std.specs.Io.KnownBytes.{Consumes}
+use Rattle.std.proofs.KnownBytes.{Consumes-trans}
+use borrow.Rule.Slice.PartMut.{put_mid, post_of}
+use lib.Seq.{take-add, take-append-le}
+use Rattle.intake.proofs.fill.Goals as goal
+
+-- a piece behind a front that stays as it is
+joined : (a n k : ℕ) (xs ys : List ℕ) → a ≤ length xs → n ≤ length ys → take (a + n) (put_mid a k xs ys) ≡ take a xs ++ take n ys
+joined a n k xs ys within fits =
+    let behind = drop_at (take a xs) (ys ++ post_of a k xs) a (length-take-le a xs within) in
+    take-add a n (put_mid a k xs ys)
+    ∙ ap (λ l. l ++ take n (drop a (put_mid a k xs ys))) (take-put_mid_below _ _ _ _ _ (le_refl _) within)
+    ∙ ap (λ l. take a xs ++ take n l) behind
+    ∙ ap (λ l. take a xs ++ l) (take-append-le n ys (post_of a k xs) fits)
+
+pub loop-done-preserved : goal.loop-done-preserved
+loop-done-preserved g c =
+    let whole = joined c.loop-done.done c.in_ok-n.n (length c.loop-done.buffer - c.loop-done.done) c.loop-done.buffer c.read.new.buf c.loop-done.invariant.0 c.in_ok-n.ensures.bound.0 in
+    (search rules, subst (Consumes _ _) (sym whole) (Consumes-trans _ _ _ _ _ c.loop-done.invariant.1 c.in_ok-n.ensures.bytes.0))
