@@ -1,7 +1,7 @@
-# What benchmarks/check, run and program share: a C compiler for x86-64, MPFR and GMP for it, and what runs its programs.
+# What benchmarks/check, run and program share: a C compiler, and MPFR and GMP for it.
 # Sourced by bash from the repository's root.  Everything lands below build/benchmarks; MPFR and GMP are those that the compiler
-# finds on x86-64, else Debian's packages for amd64, unpacked there and not installed.  Assumes rt on the path, and apt-get where
-# something is missing.
+# finds, else Debian's packages, unpacked there and not installed.  Assumes an x86-64 machine, as the kit does, rt on the path, and
+# apt-get where something is missing.
 out=build/benchmarks
 mkdir -p "$out"
 peers=(benchmarks/mpfr_bracket.c benchmarks/mpfr_series.c benchmarks/mpfr_equation.c benchmarks/shortcut.c)
@@ -16,20 +16,13 @@ need() {
     exit 1
 }
 
-if [ "$(uname -m)" = x86_64 ]; then
-    need gcc gcc libc6-dev
-    cc=gcc emulator=
-else
-    need x86_64-linux-gnu-gcc gcc-x86-64-linux-gnu libc6-dev-amd64-cross
-    cc=x86_64-linux-gnu-gcc
-    emulator=$(dirname "$(dirname "$(rt doc)")")/on/$(uname -m)/toolchain/bin/qemu-x86_64
-fi
+need gcc gcc libc6-dev
 need python3 python3
 
-# get_mpfr: fetches the two packages, with lists and a cache of apt-get's own, which know of amd64 on any machine.
+# get_mpfr: fetches the two packages, with lists and a cache of apt-get's own.
 packages=$out/amd64/usr
 get_mpfr() {
-    if [ -z "$emulator" ] && echo '#include <mpfr.h>' | "$cc" -E - >/dev/null 2>&1; then
+    if echo '#include <mpfr.h>' | gcc -E - >/dev/null 2>&1; then
         packages=
         return
     fi
@@ -49,7 +42,7 @@ compile() {
         flags=(-static "-I$packages/include" "-I$packages/include/x86_64-linux-gnu")
         libraries=("-L$packages/lib/x86_64-linux-gnu")
     fi
-    "$cc" -std=c11 -O2 -Wall -Wextra "${flags[@]}" -o "$out/$program" "$@" "${libraries[@]}" -lmpfr -lgmp || exit 1
+    gcc -std=c11 -O2 -Wall -Wextra "${flags[@]}" -o "$out/$program" "$@" "${libraries[@]}" -lmpfr -lgmp || exit 1
 }
 
 # make_pairs: 1,000 pairs of each kind for the loops, and the same as the bench program's proposals.

@@ -4,8 +4,8 @@
  *   panel TERMS PROPOSALS [WIDTH [KIND]]
  *   panel TERMS --card TEMPERATURE DENSITY [WIDTH]
  *
- * Built by 'rt staticlib panel' and, on x86-64, 'gcc -Iinclude -o panel examples/panel.c target/staticlib/libpanel.a';
- * 'tests/c examples/panel.c TERMS PROPOSALS' builds and runs it on either kind of machine.
+ * Built by '(cd crates/panel && rt lib)' and 'gcc -Iinclude -o panel examples/panel.c crates/panel/out/libpanel.a';
+ * 'tests/c examples/panel.c TERMS PROPOSALS' builds and runs it.
  *
  * TERMS is a file of packed terms or, where its name ends in .txt, a table typed as text; PROPOSALS has five doubles
  * for each plug, most significant byte first: temperature, liquid, vapour, pressure tolerance, Gibbs tolerance, as the

@@ -1,15 +1,19 @@
 #!/usr/bin/env python3
 """Makes the table of docs/BASE.md: the size of each crate, and how long its check took.
 
-  bash .ci/run && python3 tests/count.py
+  python3 tests/count.py                        the sizes; the times stay as the table has them
+  bash .ci/run && python3 tests/count.py --time the times too, in a new clone: proves each crate once more
 
 Counts the lines that are neither empty nor a comment: code in src/ (its contracts included), statements in specs/ and
-proofs in proofs/.  The time is what `rt` said when it last proved the crate (target/log); a crate that it did not prove
-again has none, so the gate, which starts from nothing, goes first.  Assumes Python 3.9.
+proofs in proofs/.  The time is one check of the crate from nothing, with one job, over the libraries that `rt ci` left
+(tests/left).  Assumes Python 3.9.
 """
 
 import os
 import re
+import subprocess
+import sys
+import time
 
 HERE = os.path.dirname(os.path.abspath(__file__))
 ROOT = os.path.dirname(HERE)
@@ -21,7 +25,7 @@ PARTS = (("src", ".rt", "//"), ("specs", ".antt", "--"), ("proofs", ".antt", "--
 def crates():
     """The crates' names in the order of crates.txt."""
     with open(os.path.join(ROOT, "crates.txt")) as file:
-        return [line.split(":")[0] for line in file if ":" in line and not line.startswith("#")]
+        return [line.split(":")[0].split()[0] for line in file if ":" in line and not line.startswith("#")]
 
 
 def files(folder, ending):
@@ -43,21 +47,24 @@ def counts(crate):
 
 
 def seconds(crate):
-    """None where the last run of `rt` did not prove the crate."""
-    try:
-        with open(os.path.join(ROOT, "target", "log", crate + ".out"), encoding="utf-8") as file:
-            took = re.search(r"^rt: \w+ proved \((\d+) s\)$", file.read(), re.MULTILINE)
-    except FileNotFoundError:
-        return None
-    return int(took.group(1)) if took else None
+    """None where the crate is not proved."""
+    begun = time.monotonic()
+    done = subprocess.run(["sh", os.path.join(HERE, "left"), "check", crate, "--jobs", "1"], stdout=subprocess.DEVNULL)
+    return None if done.returncode else round(time.monotonic() - begun)
+
+
+def seconds_before(page):
+    """The times that the page's table has, by crate."""
+    rows = re.findall(r"^\| `(\w+)` \|.* \| ([\d,]+) \|$", page, re.MULTILINE)
+    return {name: int(took.replace(",", "")) for name, took in rows}
 
 
 def row(name, numbers):
     return "| %s |\n" % " | ".join([name] + ["–" if n is None else "{:,}".format(n) for n in numbers])
 
 
-def table():
-    rows = [(crate, counts(crate) + [seconds(crate)]) for crate in crates()]
+def table(took):
+    rows = [(crate, counts(crate) + [took(crate)]) for crate in crates()]
     total = [sum(n or 0 for n in column) for column in zip(*(numbers for _, numbers in rows))]
     head = "| crate | code | statement | proof | must-fail edits | check, s |\n|---|---|---|---|---|---|\n"
     return head + "".join(row("`%s`" % name, numbers) for name, numbers in rows) + row("all", total)
@@ -66,7 +73,7 @@ def table():
 def main():
     with open(PAGE, encoding="utf-8") as file:
         before, rest = file.read().split(OPENS)
-    made = table()
+    made = table(seconds if sys.argv[1:] == ["--time"] else seconds_before(rest.split(CLOSES)[0]).get)
     with open(PAGE, "w", encoding="utf-8", newline="\n") as file:
         file.write(before + OPENS + "\n" + made + "\n" + CLOSES + rest.split(CLOSES)[1])
     print(made, end="")

@@ -4,7 +4,7 @@ line that counts.
 
 The same bytes in one piece, byte by byte and in random pieces give the same lines; no input gives no line; a list of
 100,000 proposals is answered to its last line with no more memory than a list of one.  What the lines say is
-tests/compare's matter.  Assumes that target/bin/bench is built.
+tests/compare's matter.  Assumes that crates/bench/out/bench is built (`sh tests/run --build bench`).
 """
 
 import os
@@ -16,7 +16,7 @@ import sys
 import tempfile
 
 HERE = os.path.dirname(os.path.abspath(__file__))
-BENCH = [os.path.join(HERE, "run"), "bench"]
+BENCH = [os.path.join(os.path.dirname(HERE), "crates", "bench", "out", "bench")]
 TERMS = {"38": bytes.fromhex("D5F0006E9B73B18500"), "58": bytes.fromhex("3190A7C001BA6DCEC6140000")}  # the same one
 WORDS = [[width, kind] for width in ("32", "53") for kind in TERMS]
 LONG = 100000

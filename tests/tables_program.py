@@ -3,7 +3,8 @@
 
 The tables that ship, as files; random tables; each refusal with its line on standard error; lengths near the longest
 text and table, and far beyond; input in pieces; wrong words.  A run passes if standard output, standard error and exit
-status 0 are what they should be.  Assumes that target/bin/tables is built.
+status 0 are what they should be.  Assumes that crates/tables/out/tables is
+built (`sh tests/run --build tables`).
 """
 
 import fcntl
@@ -25,7 +26,7 @@ from second.tests import samples  # noqa: E402
 from second.tests.test_text import ROW, ROW_38, lines_of, slips, spelled_table, unspelled  # noqa: E402
 from second.text import tables  # noqa: E402
 
-TABLES = [os.path.join(HERE, "run"), "tables"]
+TABLES = [os.path.join(ROOT, "crates", "tables", "out", "tables")]
 LONGEST_LINE = b"3 15 24 -0.1234567890e-6\n"
 MEGABYTE = 1 << 20
 PATIENCE = 60  # seconds that one run may take

@@ -1,19 +1,17 @@
 -- How many terms are laid, and when: what the code asks before it reads and lays them, and what is replied by their count. Assumes nothing.
-use mathlib.Core.Path.{◌≡◌, refl, sym, ap, subst, ◌∙◌}
+use mathlib.Core.Path.{◌≡◌, refl, sym, subst, ◌∙◌}
 use mathlib.Core.Bool.{Bool, true, false, cond, ◌&&◌}
 use mathlib.Core.List.{List}
-use Prim.Native.Nat.{ℕ, zero, suc, ◌*◌, ◌/◌, ◌≤◌, ◌<◌, zero-le}
+use Prim.Native.Nat.{ℕ, zero, suc, ◌*◌, ◌≤◌, ◌<◌, zero-le}
 use native.Mathlib.Omega.{arith}
-use native.Mathlib.Nat.{le_refl}
-use lib.Dec.{leb, ltb}
+use lib.Dec.{leb}
 use lib.ListN.{length}
 use borrow.Author.Tests.{leb-true, le-ltb, lt-ltb, le-leb, lt-leb, ne_eqb}
 use Rattle.kind.specs.Kind.{sound_kind, term_bytes}
 use Rattle.term.specs.Packed.{count_terms}
-use Rattle.term.specs.Bounds.{Whole}
 use Rattle.term.specs.Sound.{sound_length, first_broken, sound_table}
 use Rattle.term.proofs.Answers.{sound-few, sound-whole}
-use Rattle.term.proofs.Rules.{whole_widest, whole_some}
+use Rattle.term.proofs.Rules.{whole_widest}
 use Rattle.verdict.specs.Rules.{sound_width}
 use Rattle.verdict.proofs.Tests.{both, together}
 use Rattle.quick.specs.declared.Question.{Question}

@@ -11,7 +11,4 @@ pub mod Shared
 pub mod Passing
 pub mod Stated
 pub mod Over
-pub mod Locals
-pub mod TermArray
-pub mod Called
 pub mod Same

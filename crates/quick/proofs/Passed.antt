@@ -4,7 +4,6 @@ use mathlib.Core.Path.{◌≡◌, refl, sym, ap, ap₂, subst, ◌∙◌}
 use mathlib.Core.Logic.{inl, inr}
 use mathlib.Core.List.{List}
 use Prim.Native.Nat.{ℕ, zero, suc, ◌+◌, ◌≤◌, ◌<◌}
-use native.Mathlib.Nat.{le_refl, le_trans}
 use native.Mathlib.Numerals.{add-one}
 use native.Mathlib.Omega.{arith}
 use lib.ListN.{length, set, get_or}
@@ -19,7 +18,7 @@ use Rattle.equation.specs.Rules.{scaled, factor_e, term_w, factor_s2, coefficien
 use Rattle.equation.proofs.Holds.{delta-power_held, term-g_in}
 use Rattle.quick.specs.declared.ready.Row.{Row}
 use Rattle.quick.specs.Powers.{nothing}
-use Rattle.quick.specs.Ready.{no_row, RowFor, RowsTo}
+use Rattle.quick.specs.Ready.{no_row, RowsTo}
 use Rattle.quick.specs.Kept.{Kept, weighed_by, kept_of, addends_by, Keepable, Addable}
 use Rattle.quick.proofs.Filled.{over-or_less}
 use Rattle.quick.proofs.Shared.{addends-by, term-addable}

@@ -13,7 +13,7 @@ use Rattle.kind.specs.Kind.{sound_kind}
 use Rattle.doubles.specs.Double.{exact_of}
 use Rattle.term.specs.declared.Term.{Term}
 use Rattle.term.specs.Packed.{count_terms, terms_from, terms}
-use Rattle.term.specs.Sound.{sound_length, first_broken, sound_table}
+use Rattle.term.specs.Sound.{sound_length, first_broken}
 use Rattle.verdict.specs.declared.Refusal.{Refusal}
 use Rattle.verdict.specs.declared.Refusal.TheVariants.{Width, Kind, TableLength, BrokenTerm, Temperature, Density, Target, Tolerance, Sides, Ceiling}
 use Rattle.verdict.specs.declared.SheetAnswer.{SheetAnswer}
@@ -30,7 +30,6 @@ use Rattle.verdict.proofs.Tables.{table_parts, sound}
 use Rattle.quick.specs.declared.Question.{Question}
 use Rattle.quick.specs.declared.Question.TheVariants as question
 use Rattle.quick.specs.declared.Reply.{Reply}
-use Rattle.quick.specs.declared.Reply.TheVariants.{Short, Sheet, Check}
 use Rattle.quick.specs.Reading.{reply_number}
 use Rattle.quick.specs.Lent.{Sound, sound_input, sound_count, laid, laid_on, plain_reply, reply_of, Stated}
 use Rattle.quick.proofs.Filled.{over-or_less}

@@ -1,14 +1,13 @@
 -- What the rows of a table share, by the laws of the equation: the brackets that the pass works on are held, and its addends are the rule's.
 -- Assumes nothing.
 use mathlib.Core.Path.{◌≡◌, refl}
-use Prim.Native.Nat.{ℕ, suc, ◌≤◌}
-use native.Mathlib.Omega.{arith}
+use Prim.Native.Nat.{ℕ, suc}
 use Rattle.term.specs.declared.Term.{Term}
 use Rattle.term.specs.Bounds.{Bounds}
 use Rattle.bracket.specs.declared.Bracket.{Bracket}
 use Rattle.bracket.specs.Rules.{power}
 use Rattle.equation.specs.Ranged.{DeltaIn, TauIn, AllHeld}
-use Rattle.equation.specs.Rules.{scaled, coefficient, term_v, addends_of, addends}
+use Rattle.equation.specs.Rules.{coefficient, term_v, addends_of, addends}
 use Rattle.equation.proofs.Holds.{delta-power_held, tau-power_held, coefficient_held, by_delta-held, by_tau_held, term-g_in, e_in, w-in, factor_s2-held}
 use Rattle.equation.proofs.HoldsSums.{addends_held}
 use Rattle.quick.specs.Kept.{weighed_by, kept_of, value_by, addends_by, Addable}

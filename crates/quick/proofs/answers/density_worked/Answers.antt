@@ -1,0 +1,35 @@
+-- `quick::answers::density_worked` meets its contract. Assumes nothing.
+use mathlib.Core.Path.{sym, subst}
+use lib.Dec.{T}
+use Rattle.doubles.proofs.Limits.{target_widest}
+use Rattle.equation.specs.Rules.{target_gap}
+use Rattle.verdict.specs.Worked.{phase_of}
+use Rattle.verdict.proofs.Tests.{tolerance_finite}
+use Rattle.verdict.proofs.Ready.{pressure-ready, pressure-handy, stiffness-handy, target_gap-handy}
+use Rattle.quick.proofs.answers.density_worked.Goals as goal
+
+pub phase_of-a-requires : goal.phase_of-a-requires
+phase_of-a-requires c = c.requires.0
+
+pub target_gap_of-gap-requires : goal.target_gap_of-gap-requires
+unfolding phase_of
+target_gap_of-gap-requires c =
+    let a = c.args in
+    let p = c.requires in
+    let w = p.0.0 in
+    (rw c.phase_of-a.ensures (pressure-ready w.width _ _ w.table_sound _ w.temperature _ w.density), target_widest a.kind a.target p.1.0)
+
+pub worked-requires : goal.worked-requires
+unfolding phase_of target_gap
+worked-requires c =
+    let p = c.requires in
+    let w = p.0.0 in
+    let fit = subst T (sym c.well_formed.1.1.1.1.1.1.0.1) tt in
+    rw (c.target_gap_of-gap.ensures, c.phase_of-a.ensures) (
+      (pressure-handy w.width _ _ w.table_sound _ w.temperature _ w.density, target_gap-handy w.width _ _ w.table_sound _ w.temperature _ w.density _ fit p.1.0),
+      (stiffness-handy w.width _ _ w.table_sound _ w.temperature _ w.density, tolerance_finite _ p.1.1),
+    )
+
+pub returns : goal.returns
+unfolding phase_of target_gap
+returns c = record { value = rw (c.target_gap_of-gap.ensures, c.phase_of-a.ensures) at c.worked.ensures.value; answer_numbers = c.worked.ensures.answer_numbers }
