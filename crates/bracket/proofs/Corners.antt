@@ -2,8 +2,8 @@
 -- look at the numbers and not at how they are written. Assumes nothing.
 use mathlib.Core.Bool.{Bool, true, false}
 use Rattle.exact.specs.Fraction.{Fraction, ◌≼◌, ◌≈◌}
-use Rattle.exact.specs.Fraction.Order.{≼_trans}
-use Rattle.exact.specs.Fraction.Least.{least-cong, greatest-cong}
+use Rattle.exact.proofs.Fraction.Order.{≼_trans}
+use Rattle.exact.proofs.Fraction.Least.{least-cong, greatest-cong}
 use Rattle.exact.specs.Ends.{least_over, greatest_over}
 use Rattle.exact.proofs.Bounds.{least_over-elim, least_over-ac, least_over-ae, least_over-bc, least_over-be, least_over-is}
 use Rattle.exact.proofs.Bounds.{greatest_over-elim, greatest_over-ac, greatest_over-ae, greatest_over-bc, greatest_over-be, greatest_over-is}

@@ -4,8 +4,8 @@ use mathlib.Core.Path.{◌≡◌, refl, sym, ap, subst, ◌∙◌}
 use mathlib.Core.Bool.{Bool, true, false, not, cond}
 use Prim.Native.Nat.{ℕ, suc, ◌*◌, ◌^◌, ◌<◌}
 use Rattle.exact.specs.Fraction.{Fraction, nat, leq, parts, least, greatest, ◌⊕◌, ◌⊖◌, ◌⊗◌, ◌⊘◌, ◌≼◌, ◌≺◌, ◌≈◌}
-use Rattle.exact.specs.Fraction.Order.{≼_trans, ≼-antisym, ≺→≼, ≈-sym, ≼-leq, leq-true, leq-false}
-use Rattle.exact.specs.Fraction.Parts.{parts-nonneg, parts-nonpos, nat-pos}
+use Rattle.exact.proofs.Fraction.Order.{≼_trans, ≼-antisym, ≺→≼, ≈-sym, ≼-leq, leq-true, leq-false}
+use Rattle.exact.proofs.Fraction.Parts.{parts-nonneg, parts-nonpos, nat-pos}
 use Rattle.sheet.specs.declared.Sheet.{Sheet}
 use Rattle.sheet.specs.Number.{value, bias, Spelled}
 use Rattle.sheet.specs.Round.{round, down, up}

@@ -2,8 +2,8 @@
 -- rule's lower end is not above its upper. Assumes nothing.
 use Prim.Native.Nat.{ℕ, zero, suc}
 use Rattle.exact.specs.Fraction.{Fraction, nat, ◌⊕◌, ◌⊖◌, ◌⊗◌, ◌⊘◌, ◌≼◌, ◌≺◌}
-use Rattle.exact.specs.Fraction.Order.{≼_trans}
-use Rattle.exact.specs.Fraction.Sum.{≼-⊕-right}
+use Rattle.exact.proofs.Fraction.Order.{≼_trans}
+use Rattle.exact.proofs.Fraction.Sum.{≼-⊕-right}
 use Rattle.exact.specs.Series.{power as raised}
 use Rattle.sheet.specs.Number.{value}
 use Rattle.sheet.proofs.Laws.{down_le, up_ge}

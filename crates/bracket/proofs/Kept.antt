@@ -4,7 +4,7 @@ use mathlib.Core.Path.{refl}
 use mathlib.Core.Bool.{Bool, true, false}
 use Prim.Native.Nat.{ℕ, suc}
 use Rattle.exact.specs.Fraction.{Fraction, nat, ◌≼◌}
-use Rattle.exact.specs.Fraction.Order.{≼_trans, ≈-sym, ≈-≼-trans, ≼-≈-trans}
+use Rattle.exact.proofs.Fraction.Order.{≼_trans, ≈-sym, ≈-≼-trans, ≼-≈-trans}
 use Rattle.sheet.specs.declared.Sheet.{Sheet}
 use Rattle.sheet.specs.Number.{value, plain_zero, Spelled}
 use Rattle.sheet.proofs.Spelling.{zero_spelled}

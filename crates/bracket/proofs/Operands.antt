@@ -11,8 +11,8 @@ use lib.Ieee.{Float, fits, binary64}
 use lib.Ieee.Scale.{finite}
 use lib.Pow.{pow_pos, pow-add}
 use Rattle.exact.specs.Fraction.{nat, ◌≺◌, ◌≈◌}
-use Rattle.exact.specs.Fraction.Parts.{nat-pos}
-use Rattle.exact.specs.Fraction.Readers.{top_resp, top_parts, bottom-parts, top_nat, bottom-nat}
+use Rattle.exact.proofs.Fraction.Parts.{nat-pos}
+use Rattle.exact.proofs.Fraction.Readers.{top_resp, top_parts, bottom-parts, top_nat, bottom-nat}
 use Rattle.sheet.specs.declared.Sheet.{Sheet}
 use Rattle.sheet.specs.Number.{bias, value}
 use Rattle.sheet.specs.Round.{round}

@@ -4,10 +4,10 @@ use mathlib.Core.Path.{◌≡◌, ◌∙◌}
 use mathlib.Core.Bool.{Bool, true, false}
 use Prim.Native.Nat.{ℕ, suc}
 use Rattle.exact.specs.Fraction.{Fraction, nat, ◌⊕◌, ◌⊖◌, ◌⊗◌, ◌⊘◌, ◌≺◌, ◌≈◌}
-use Rattle.exact.specs.Fraction.Order.{≈-refl, ≈-sym, ≈-trans, ≺-≼-trans}
-use Rattle.exact.specs.Fraction.Sum.{⊕-cong, ⊖-cong}
-use Rattle.exact.specs.Fraction.Product.{⊗-cong}
-use Rattle.exact.specs.Fraction.Quotient.{⊘-cong}
+use Rattle.exact.proofs.Fraction.Order.{≈-refl, ≈-sym, ≈-trans, ≺-≼-trans}
+use Rattle.exact.proofs.Fraction.Sum.{⊕-cong, ⊖-cong}
+use Rattle.exact.proofs.Fraction.Product.{⊗-cong}
+use Rattle.exact.proofs.Fraction.Quotient.{⊘-cong}
 use Rattle.sheet.specs.declared.Sheet.{Sheet}
 use Rattle.sheet.specs.Number.{Spelled}
 use Rattle.sheet.specs.Round.{down, up}

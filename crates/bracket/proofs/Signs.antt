@@ -2,11 +2,11 @@
 -- quotient with an operand of one sign need two of them, the product of two spans around zero all four. Assumes nothing.
 use mathlib.Core.Bool.{Bool, true, false, not}
 use Rattle.exact.specs.Fraction.{Fraction, nat, least, greatest, ◌⊕◌, ◌⊖◌, ◌⊗◌, ◌⊘◌, ◌≼◌, ◌≺◌}
-use Rattle.exact.specs.Fraction.Order.{≼_trans, ≼-antisym, ≺-≼-trans, ≼-resp, ≈-sym}
-use Rattle.exact.specs.Fraction.Sum.{⊕-mono, ⊖-mono}
-use Rattle.exact.specs.Fraction.Product.{⊗-comm, ⊗-mono-left, ⊗-mono-right, ⊗-anti-left, ⊗-anti-right}
-use Rattle.exact.specs.Fraction.Quotient.{⊘-is, inv-anti, ⊘-mono-left, ⊘-anti-right}
-use Rattle.exact.specs.Fraction.Least.{least-elim, greatest-elim, least-left, least-right, greatest-left, greatest-right}
+use Rattle.exact.proofs.Fraction.Order.{≼_trans, ≼-antisym, ≺-≼-trans, ≼-resp, ≈-sym}
+use Rattle.exact.proofs.Fraction.Sum.{⊕-mono, ⊖-mono}
+use Rattle.exact.proofs.Fraction.Product.{⊗-comm, ⊗-mono-left, ⊗-mono-right, ⊗-anti-left, ⊗-anti-right}
+use Rattle.exact.proofs.Fraction.Quotient.{⊘-is, inv-anti, ⊘-mono-left, ⊘-anti-right}
+use Rattle.exact.proofs.Fraction.Least.{least-elim, greatest-elim, least-left, least-right, greatest-left, greatest-right}
 use Rattle.bracket.specs.Span.{Span, Ordered, Each, Sign, side, over, ◌∈◌, ◌≃◌}
 use Rattle.bracket.proofs.Corners.{corner, over-each, over-is}
 use Rattle.bracket.proofs.Within.{in_≈, in_side}

@@ -6,7 +6,7 @@ use Prim.Native.Nat.{ℕ, suc, ◌^◌, ◌≤◌, ◌<◌}
 use native.Mathlib.Nat.{lt_of_le_of_lt, lt_of_lt_of_le, mul-pos}
 use lib.Pow.{pow_pos, pow_mono}
 use Rattle.exact.specs.Fraction.{nat, ◌⊕◌, ◌≼◌, ◌≺◌}
-use Rattle.exact.specs.Fraction.Order.{≼_trans}
+use Rattle.exact.proofs.Fraction.Order.{≼_trans}
 use Rattle.sheet.specs.Number.{value, Spelled}
 use Rattle.sheet.specs.Round.{down, up}
 use Rattle.sheet.specs.Range.{extent}

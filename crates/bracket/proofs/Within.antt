@@ -2,7 +2,7 @@
 -- and the product, and for the quotient where the divisor's lower end is above zero. Assumes nothing.
 use mathlib.Core.Bool.{Bool, true, false}
 use Rattle.exact.specs.Fraction.{Fraction, nat, ◌⊕◌, ◌⊖◌, ◌⊗◌, ◌⊘◌, ◌≺◌, ◌≈◌}
-use Rattle.exact.specs.Fraction.Order.{≼_refl, ≼_trans, ≼-≈-trans, ≈-≼-trans, ≈-sym}
+use Rattle.exact.proofs.Fraction.Order.{≼_refl, ≼_trans, ≼-≈-trans, ≈-≼-trans, ≈-sym}
 use Rattle.exact.specs.Ends.{Within}
 use Rattle.exact.proofs.Bounds.{⊕-within, ⊖-within, ⊗-within, ⊘-within}
 use Rattle.bracket.specs.Span.{Span, point, side, Ordered, over, ◌∈◌, ◌≃◌}

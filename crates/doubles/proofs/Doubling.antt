@@ -11,9 +11,9 @@ use lib.Ieee.{Float, nan, inf, fin, binary64, round, mul, fits}
 use lib.Ieee.Exact.{HasValue, round_exact}
 use lib.Ieee.Positive.{positive, positive-finite, mul_at, positive_of_value, value_pos}
 use Rattle.exact.specs.Fraction.{nat, parts, ◌⊗◌, ◌≼◌, ◌≈◌}
-use Rattle.exact.specs.Fraction.Order.{≈-sym, ≈-trans, ≼_trans, ≈→≽}
-use Rattle.exact.specs.Fraction.Parts.{parts-nat, parts-⊗, ≼-parts}
-use Rattle.exact.specs.Fraction.Product.{⊗-cong}
+use Rattle.exact.proofs.Fraction.Order.{≈-sym, ≈-trans, ≼_trans, ≈→≽}
+use Rattle.exact.proofs.Fraction.Parts.{parts-nat, parts-⊗, ≼-parts}
+use Rattle.exact.proofs.Fraction.Product.{⊗-cong}
 use Rattle.doubles.specs.Double.{exact_of}
 use Rattle.doubles.proofs.Pattern.{in_units, value-exact}
 use Rattle.doubles.proofs.Shift.{pow_one}

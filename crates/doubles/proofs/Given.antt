@@ -10,8 +10,8 @@ use lib.Pow.{pow-add, pow_pos, pow_mono, pow-lt, shl_lt}
 use lib.Ieee.{Float, binary64, fits}
 use lib.Ieee.Scale.{finite}
 use Rattle.exact.specs.Fraction.{nat, parts, ◌≈◌}
-use Rattle.exact.specs.Fraction.Order.{≈-trans}
-use Rattle.exact.specs.Fraction.Parts.{parts-zero}
+use Rattle.exact.proofs.Fraction.Order.{≈-trans}
+use Rattle.exact.proofs.Fraction.Parts.{parts-zero}
 use Rattle.sheet.specs.Magnitude.{round_mag}
 use Rattle.sheet.specs.Number.{bias, signed}
 use Rattle.sheet.specs.Round.{away, round}

@@ -15,8 +15,8 @@ use lib.Ieee.Exact.{HasValue, round_exact}
 use lib.Ieee.Fits.{down_pos, round-fits}
 use lib.Ieee.Scale.{finite, round_same}
 use Rattle.exact.specs.Fraction.{Fraction, nat, parts, negative, top, bottom, leq, ◌≈◌}
-use Rattle.exact.specs.Fraction.Order.{≈-refl, ≈-sym, ≈-trans, leq-resp, ≈-≺-trans, ≼-≈-trans}
-use Rattle.exact.specs.Fraction.Parts.{parts-zero, ≈-parts, as_parts, bottom-pos, ≺-negative, ≼-negative, negative-true, negative-false, parts-neg, parts-nonneg}
+use Rattle.exact.proofs.Fraction.Order.{≈-refl, ≈-sym, ≈-trans, leq-resp, ≈-≺-trans, ≼-≈-trans}
+use Rattle.exact.proofs.Fraction.Parts.{parts-zero, ≈-parts, as_parts, bottom-pos, ≺-negative, ≼-negative, negative-true, negative-false, parts-neg, parts-nonneg}
 use Rattle.doubles.specs.Double.{exact_of}
 use Rattle.doubles.specs.Handed.{double_of, DoubleValue}
 use Rattle.doubles.proofs.Pattern.{in_units, value-exact, value-finite}

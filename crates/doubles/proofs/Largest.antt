@@ -9,9 +9,9 @@ use native.Mathlib.Nat.{le_antisymm, le_of_suc-le-suc, eq-or-lt_of_le}
 use lib.Dec.{lit<}
 use lib.Pow.{pow_mono}
 use Rattle.exact.specs.Fraction.{Fraction, nat, parts, ◌⊗◌, ◌≼◌, ◌≺◌, ◌≈◌, leq}
-use Rattle.exact.specs.Fraction.Order.{≼_trans, ≼-not-≺, ≈→≼, ≈→≽, ≈-refl, ≈-sym, ≈-trans, leq-true, leq-false}
-use Rattle.exact.specs.Fraction.Parts.{nat-≼, nat-nonneg, parts-nat, parts-⊗, ≼-parts}
-use Rattle.exact.specs.Fraction.Product.{⊗-mono-left, ⊗-mono-right, ⊗-cong, ⊗-one}
+use Rattle.exact.proofs.Fraction.Order.{≼_trans, ≼-not-≺, ≈→≼, ≈→≽, ≈-refl, ≈-sym, ≈-trans, leq-true, leq-false}
+use Rattle.exact.proofs.Fraction.Parts.{nat-≼, nat-nonneg, parts-nat, parts-⊗, ≼-parts}
+use Rattle.exact.proofs.Fraction.Product.{⊗-mono-left, ⊗-mono-right, ⊗-cong, ⊗-one}
 use Rattle.doubles.proofs.Shift.{pow_lt_back}
 use Rattle.doubles.specs.Ratio.{pick, largest_up_to, ratio_exponent, IsLargest}
 

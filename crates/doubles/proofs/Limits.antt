@@ -6,8 +6,8 @@ use lib.Ieee.{Float}
 use Rattle.kind.specs.Kind.{by_kind, widest, coldest, densest, highest}
 use Rattle.kind.proofs.Either.{cold-widest, dense_widest, high_widest}
 use Rattle.exact.specs.Fraction.{nat, parts}
-use Rattle.exact.specs.Fraction.Order.{≼_refl}
-use Rattle.exact.specs.Fraction.Parts.{nat-≼}
+use Rattle.exact.proofs.Fraction.Order.{≼_refl}
+use Rattle.exact.proofs.Fraction.Parts.{nat-≼}
 use Rattle.doubles.specs.Range.{accepted_temperature, accepted_density, accepted_target}
 use Rattle.doubles.proofs.Within.{Inside, inside, from_wider}
 

@@ -13,8 +13,8 @@ use lib.Ieee.{Float, nan, inf, fin, binary64, of_bits, fits}
 use lib.Ieee.Scale.{finite}
 use borrow.Author.Tests.{lt-leb}
 use Rattle.exact.specs.Fraction.{Fraction, parts, leq, ◌≼◌, ◌≺◌, ◌≈◌}
-use Rattle.exact.specs.Fraction.Order.{≼-or-≺, ≼-leq, ≺-leq, ≼-not-≺, ≺-≼-trans, ≺-≈-trans, ≼-≈-trans, ≼-resp, ≈-sym}
-use Rattle.exact.specs.Fraction.Parts.{parts-≼, parts-≺, ≺-parts, parts-≼_across}
+use Rattle.exact.proofs.Fraction.Order.{≼-or-≺, ≼-leq, ≺-leq, ≼-not-≺, ≺-≼-trans, ≺-≈-trans, ≼-≈-trans, ≼-resp, ≈-sym}
+use Rattle.exact.proofs.Fraction.Parts.{parts-≼, parts-≺, ≺-parts, parts-≼_across}
 use Rattle.doubles.specs.Double.{exact_of}
 use Rattle.doubles.specs.Range.{within}
 use Rattle.doubles.proofs.Pattern.{field_of, digits_of, normal-pattern, value-exact, in_units}

@@ -14,7 +14,7 @@ use lib.Ieee.Exact.{HasValue, odd_sign}
 use lib.Ieee.Fits.{down_pos}
 use lib.Ieee.Scale.{finite}
 use Rattle.exact.specs.Fraction.{parts, ◌≈◌}
-use Rattle.exact.specs.Fraction.Parts.{parts-≈}
+use Rattle.exact.proofs.Fraction.Parts.{parts-≈}
 use Rattle.doubles.specs.Double.{exact_of}
 
 -- an f64 of known sign and size has that exact value

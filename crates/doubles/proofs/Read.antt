@@ -10,8 +10,8 @@ use lib.Ieee.Bits.{of_bits-to_bits}
 use lib.Ieee.Exact.{HasValue}
 use lib.Ieee.Scale.{finite}
 use Rattle.exact.specs.Fraction.{nat, parts, ◌≈◌}
-use Rattle.exact.specs.Fraction.Order.{≈-sym, ≈-trans}
-use Rattle.exact.specs.Fraction.Parts.{parts-zero}
+use Rattle.exact.proofs.Fraction.Order.{≈-sym, ≈-trans}
+use Rattle.exact.proofs.Fraction.Parts.{parts-zero}
 use Rattle.sheet.specs.Number.{bias}
 use Rattle.doubles.specs.Double.{exact_of}
 use Rattle.doubles.proofs.Pattern.{sign_of, field_of, digits_of, value-exact, finer, low-pattern, normal-pattern, finite_field}

@@ -11,9 +11,9 @@ use lib.Ieee.Fits.{mul-fits}
 use lib.Ieee.Positive.{positive, positive-finite}
 use lib.Ieee.Scale.{finite}
 use Rattle.exact.specs.Fraction.{nat, parts, ◌⊗◌, ◌≼◌, ◌≺◌, ◌≈◌, leq}
-use Rattle.exact.specs.Fraction.Order.{≈-refl, ≈-sym, ≈-trans, ≈-of-≡, ≈→≼, ≈→≽, ≼_trans, ≼-not-≺, ≺-≼-trans, ≺-≈-trans, ≼-by, leq-true, leq-false}
-use Rattle.exact.specs.Fraction.Parts.{nat-⊗, parts-zero, parts-pos, parts-nonneg, parts-nonpos}
-use Rattle.exact.specs.Fraction.Product.{⊗-assoc, ⊗-cong, ⊗-cong-left, ⊗-one}
+use Rattle.exact.proofs.Fraction.Order.{≈-refl, ≈-sym, ≈-trans, ≈-of-≡, ≈→≼, ≈→≽, ≼_trans, ≼-not-≺, ≺-≼-trans, ≺-≈-trans, ≼-by, leq-true, leq-false}
+use Rattle.exact.proofs.Fraction.Parts.{nat-⊗, parts-zero, parts-pos, parts-nonneg, parts-nonpos}
+use Rattle.exact.proofs.Fraction.Product.{⊗-assoc, ⊗-cong, ⊗-cong-left, ⊗-one}
 use Rattle.kind.specs.Kind.{widest}
 use Rattle.doubles.specs.Double.{exact_of}
 use Rattle.doubles.specs.Range.{accepted_density}

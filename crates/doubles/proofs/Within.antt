@@ -8,7 +8,7 @@ use lib.Ieee.Fits.{and_i, and_l, and_r}
 use lib.Ieee.Scale
 use lib.Ieee.Scale.{finite}
 use Rattle.exact.specs.Fraction.{Fraction, leq, ◌≼◌}
-use Rattle.exact.specs.Fraction.Order.{≼-by, ≼_trans, ≼-leq, ≺-leq, leq-false}
+use Rattle.exact.proofs.Fraction.Order.{≼-by, ≼_trans, ≼-leq, ≺-leq, leq-false}
 use Rattle.doubles.specs.Double.{exact_of}
 use Rattle.doubles.specs.Range.{within, Outside, within_tolerance}
 use Rattle.doubles.proofs.Compare.{le_exact, neg_finite, neg_exact}

@@ -13,7 +13,7 @@ use lib.Ieee.Bits.{of_bits-fits, nan_bits_is}
 use lib.Ieee.Exact.{HasValue}
 use borrow.Author.Tests.{le-leb, lt-leb}
 use Rattle.exact.specs.Fraction.{parts, negative, ◌≈◌}
-use Rattle.exact.specs.Fraction.Order.{≈-refl}
+use Rattle.exact.proofs.Fraction.Order.{≈-refl}
 use Rattle.sheet.specs.declared.Sheet.{Sheet}
 use Rattle.sheet.specs.Number.{bias, value, Normal}
 use Rattle.sheet.specs.Range.{Grain, Doubled}

@@ -5,8 +5,8 @@ use mathlib.Core.Bool.{Bool, true, false, cond}
 use native.Mathlib.Omega.{arith}
 use lib.Pow.{pow_mono}
 use Rattle.exact.specs.Fraction.{nat, leq, least, ◌≈◌}
-use Rattle.exact.specs.Fraction.Order.{≈-refl, ≈-sym, leq-resp, leq-true, leq-false}
-use Rattle.exact.specs.Fraction.Least.{least_first, least-second}
+use Rattle.exact.proofs.Fraction.Order.{≈-refl, ≈-sym, leq-resp, leq-true, leq-false}
+use Rattle.exact.proofs.Fraction.Least.{least_first, least-second}
 use Rattle.sheet.specs.declared.Sheet.{Sheet}
 use Rattle.sheet.specs.Number.{value, plain_zero, Spelled}
 use Rattle.sheet.specs.Round.{down, round}

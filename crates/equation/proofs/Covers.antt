@@ -7,11 +7,11 @@ use mathlib.Core.Path.{◌≡◌, refl}
 use mathlib.Core.Bool.{Bool, true, false, cond}
 use mathlib.Core.List.{List}
 use Rattle.exact.specs.Fraction.{Fraction, nat, leq, least, ◌⊖◌, ◌⊗◌, ◌≼◌}
-use Rattle.exact.specs.Fraction.Order.{≼_trans, ≺→≼, ≺-≼-trans, ≈-≼-trans, leq-true}
-use Rattle.exact.specs.Fraction.Product.{⊗-nonneg}
-use Rattle.exact.specs.Fraction.Quotient.{⊘-nonneg}
-use Rattle.exact.specs.Fraction.Least.{least-left, least-right, ≼-least}
-use Rattle.exact.specs.Fraction.Parts.{nat-≼, nat-pos, nat-nonneg, parts-nonneg, parts-pos}
+use Rattle.exact.proofs.Fraction.Order.{≼_trans, ≺→≼, ≺-≼-trans, ≈-≼-trans, leq-true}
+use Rattle.exact.proofs.Fraction.Product.{⊗-nonneg}
+use Rattle.exact.proofs.Fraction.Quotient.{⊘-nonneg}
+use Rattle.exact.proofs.Fraction.Least.{least-left, least-right, ≼-least}
+use Rattle.exact.proofs.Fraction.Parts.{nat-≼, nat-pos, nat-nonneg, parts-nonneg, parts-pos}
 use Rattle.exact.specs.Series.{expneg_at}
 use Rattle.exact.proofs.Series.{expneg_at-pos}
 use Rattle.exact.proofs.Falls.{expneg_at-anti}

@@ -8,8 +8,8 @@ use native.Mathlib.Nat.{le_refl, mul-le-mul_right, zero-mul}
 use native.Mathlib.Omega.{arith}
 use lib.Pow.{pow-add, pow_pos}
 use Rattle.exact.specs.Fraction.{Fraction, parts, ◌⊖◌, ◌⊗◌, ◌≼◌, ◌≈◌}
-use Rattle.exact.specs.Fraction.Order.{≈-≼-trans, ≼-≈-trans, ≈-sym, ≈-trans}
-use Rattle.exact.specs.Fraction.Parts.{parts-≈, ≼-parts, ≼-parts-zero, parts-nat}
+use Rattle.exact.proofs.Fraction.Order.{≈-≼-trans, ≼-≈-trans, ≈-sym, ≈-trans}
+use Rattle.exact.proofs.Fraction.Parts.{parts-≈, ≼-parts, ≼-parts-zero, parts-nat}
 use Rattle.sheet.specs.Number.{bias}
 use Rattle.sheet.specs.Range.{Width, Doubled}
 use Rattle.doubles.specs.Handed.{DoubleValue}

@@ -8,10 +8,10 @@ use native.Mathlib.Nat.{le_refl, zero-mul}
 use native.Mathlib.Omega.{arith}
 use lib.Pow.{pow-add, pow_mono}
 use Rattle.exact.specs.Fraction.{Fraction, nat, leq, least, ◌≼◌, ◌≺◌, ◌≈◌}
-use Rattle.exact.specs.Fraction.Order.{≼_trans, ≺→≼, ≼-≈-trans, ≈-sym, ≈-trans, ≼-leq, leq-true}
-use Rattle.exact.specs.Fraction.Sum.{negate-nonpos}
-use Rattle.exact.specs.Fraction.Least.{least-elim, least-left, ≺-least}
-use Rattle.exact.specs.Fraction.Parts.{nat-pos, nat-≼, parts-zero}
+use Rattle.exact.proofs.Fraction.Order.{≼_trans, ≺→≼, ≼-≈-trans, ≈-sym, ≈-trans, ≼-leq, leq-true}
+use Rattle.exact.proofs.Fraction.Sum.{negate-nonpos}
+use Rattle.exact.proofs.Fraction.Least.{least-elim, least-left, ≺-least}
+use Rattle.exact.proofs.Fraction.Parts.{nat-pos, nat-≼, parts-zero}
 use Rattle.sheet.specs.Number.{bias, value, plain_zero}
 use Rattle.sheet.proofs.Operations.{zero_value}
 use Rattle.bracket.specs.declared.Bracket.{Bracket}

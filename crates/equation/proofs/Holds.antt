@@ -5,7 +5,7 @@ use mathlib.Core.Bool.{Bool, true, false, cond}
 use Prim.Native.Nat.{ℕ, zero, suc, ◌+◌, ◌-◌, ◌*◌, ◌^◌, ◌≤◌, ◌<◌}
 use native.Mathlib.Omega.{arith}
 use Rattle.exact.specs.Fraction.{Fraction, nat, leq, ◌⊖◌, ◌⊗◌, ◌⊘◌, ◌≼◌, ◌≺◌}
-use Rattle.exact.specs.Fraction.Order.{≼_refl, ≼_trans, ≺→≼, ≈-≼-trans, leq-true, leq-false}
+use Rattle.exact.proofs.Fraction.Order.{≼_refl, ≼_trans, ≺→≼, ≈-≼-trans, leq-true, leq-false}
 use Rattle.sheet.specs.Number.{bias, value, plain_zero}
 use Rattle.sheet.specs.Round.{down}
 use Rattle.sheet.specs.Range.{Width}

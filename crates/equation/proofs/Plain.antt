@@ -7,11 +7,11 @@ use mathlib.Core.List.{List}
 use native.Mathlib.Omega.{arith}
 use native.Mathlib.Nat.{le_refl}
 use Rattle.exact.specs.Fraction.{Fraction, nat, ◌⊗◌, ◌≼◌, ◌≈◌}
-use Rattle.exact.specs.Fraction.Order.{≼_refl, ≼_trans, ≼-leq, ≈-refl, ≈-sym, ≈-trans, ≼-≈-trans}
-use Rattle.exact.specs.Fraction.Sum.{⊕-cong, ⊖-cong}
-use Rattle.exact.specs.Fraction.Product.{⊗-cong, one-⊗, ⊗-mono-right}
-use Rattle.exact.specs.Fraction.Quotient.{⊘-nonneg}
-use Rattle.exact.specs.Fraction.Parts.{nat-≼, nat-nonneg, parts-nat, parts-≈}
+use Rattle.exact.proofs.Fraction.Order.{≼_refl, ≼_trans, ≼-leq, ≈-refl, ≈-sym, ≈-trans, ≼-≈-trans}
+use Rattle.exact.proofs.Fraction.Sum.{⊕-cong, ⊖-cong}
+use Rattle.exact.proofs.Fraction.Product.{⊗-cong, one-⊗, ⊗-mono-right}
+use Rattle.exact.proofs.Fraction.Quotient.{⊘-nonneg}
+use Rattle.exact.proofs.Fraction.Parts.{nat-≼, nat-nonneg, parts-nat, parts-≈}
 use Rattle.exact.specs.Series.{power as power_at}
 use Rattle.exact.proofs.Power.{power-nonneg}
 use Rattle.exact.proofs.Series.{expneg_at-cong}

@@ -6,10 +6,10 @@ use native.Mathlib.Nat.{le_of_mul-le-mul_right, le_refl}
 use native.Mathlib.Omega.{arith}
 use lib.Pow.{pow_pos, pow_mono}
 use Rattle.exact.specs.Fraction.{Fraction, nat, parts, leq, negate, ◌⊕◌, ◌⊖◌, ◌⊗◌, ◌≼◌, ◌≈◌}
-use Rattle.exact.specs.Fraction.Order.{≼_trans, ≼-not-≺, ≈-sym, ≈-≼-trans, ≼-≈-trans, ≼-by}
-use Rattle.exact.specs.Fraction.Sum.{⊖-mono}
-use Rattle.exact.specs.Fraction.Product.{⊗-mono}
-use Rattle.exact.specs.Fraction.Parts.{≼-parts, parts-≼, parts-nonneg, parts-nonpos, nat-≼}
+use Rattle.exact.proofs.Fraction.Order.{≼_trans, ≼-not-≺, ≈-sym, ≈-≼-trans, ≼-≈-trans, ≼-by}
+use Rattle.exact.proofs.Fraction.Sum.{⊖-mono}
+use Rattle.exact.proofs.Fraction.Product.{⊗-mono}
+use Rattle.exact.proofs.Fraction.Parts.{≼-parts, parts-≼, parts-nonneg, parts-nonpos, nat-≼}
 use Rattle.sheet.specs.Number.{bias}
 use Rattle.sheet.proofs.Laws.{short-le_round}
 use Rattle.bracket.specs.Span.{Span, Each, whole}

@@ -8,8 +8,8 @@ use native.Mathlib.Nat.{le_refl, mul-le-mul_right}
 use native.Mathlib.Omega.{arith}
 use lib.Pow.{pow-add, pow_mono}
 use Rattle.exact.specs.Fraction.{Fraction, nat, parts, ◌≼◌}
-use Rattle.exact.specs.Fraction.Order.{≼_refl, ≼-total, ≺-≼-trans, ≼-≈-trans, ≈-≼-trans, ≈-sym, ≈-refl}
-use Rattle.exact.specs.Fraction.Parts.{nat-pos, parts-nat, parts-pos}
+use Rattle.exact.proofs.Fraction.Order.{≼_refl, ≼-total, ≺-≼-trans, ≼-≈-trans, ≈-≼-trans, ≈-sym, ≈-refl}
+use Rattle.exact.proofs.Fraction.Parts.{nat-pos, parts-nat, parts-pos}
 use Rattle.sheet.specs.Number.{bias}
 use Rattle.term.specs.declared.Term.{Term}
 use Rattle.term.specs.Bounds.{Bounds}

@@ -5,8 +5,8 @@ use Prim.Native.Nat.{ℕ, suc, ◌+◌, ◌*◌, ◌^◌, ◌<◌}
 use native.Mathlib.Omega.{arith}
 use lib.Pow.{pow-add, pow_pos}
 use Rattle.exact.specs.Fraction.{Fraction, nat, parts, ◌≼◌, ◌≈◌}
-use Rattle.exact.specs.Fraction.Order.{≼_trans, ≼-≈-trans, ≈-≼-trans, ≈-sym}
-use Rattle.exact.specs.Fraction.Parts.{parts-nat, parts-≼}
+use Rattle.exact.proofs.Fraction.Order.{≼_trans, ≼-≈-trans, ≈-≼-trans, ≈-sym}
+use Rattle.exact.proofs.Fraction.Parts.{parts-nat, parts-≼}
 use Rattle.sheet.specs.Magnitude.{Magnitude, units, round_mag}
 use Rattle.sheet.specs.Number.{bias, value}
 use Rattle.sheet.specs.Round.{away, round, up, down}

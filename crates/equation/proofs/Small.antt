@@ -6,10 +6,10 @@ use native.Mathlib.Omega.{arith}
 use mathlib.Core.Path.{◌≡◌, refl}
 use lib.Pow.{pow-add, pow_mono, pow_pos}
 use Rattle.exact.specs.Fraction.{Fraction, nat, ◌⊗◌, ◌⊘◌}
-use Rattle.exact.specs.Fraction.Order.{≼_trans, ≼-≈-trans, ≈-≼-trans, ≈-sym}
-use Rattle.exact.specs.Fraction.Parts.{nat-≼, nat-pos, nat-⊗, nat-nonneg}
-use Rattle.exact.specs.Fraction.Product.{⊗-nonneg, ⊗-mono}
-use Rattle.exact.specs.Fraction.Quotient.{⊘-nonneg, ⊘-≼}
+use Rattle.exact.proofs.Fraction.Order.{≼_trans, ≼-≈-trans, ≈-≼-trans, ≈-sym}
+use Rattle.exact.proofs.Fraction.Parts.{nat-≼, nat-pos, nat-⊗, nat-nonneg}
+use Rattle.exact.proofs.Fraction.Product.{⊗-nonneg, ⊗-mono}
+use Rattle.exact.proofs.Fraction.Quotient.{⊘-nonneg, ⊘-≼}
 use Rattle.sheet.proofs.Laws.{down_le, up_ge}
 use Rattle.bracket.specs.declared.Bracket.{Bracket}
 use Rattle.bracket.specs.Span.{Span, Each}

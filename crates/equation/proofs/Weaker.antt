@@ -5,8 +5,8 @@ use native.Mathlib.Nat.{le_refl}
 use native.Mathlib.Omega.{arith}
 use lib.Pow.{pow-add, pow_pos}
 use Rattle.exact.specs.Fraction.{Fraction, nat, parts, ◌≼◌, ◌≈◌}
-use Rattle.exact.specs.Fraction.Order.{≼-not-≺, ≈-≼-trans, ≼-≈-trans, ≈-sym}
-use Rattle.exact.specs.Fraction.Parts.{≼-parts, parts-nat, parts-nonpos}
+use Rattle.exact.proofs.Fraction.Order.{≼-not-≺, ≈-≼-trans, ≼-≈-trans, ≈-sym}
+use Rattle.exact.proofs.Fraction.Parts.{≼-parts, parts-nat, parts-nonpos}
 use Rattle.sheet.specs.Number.{bias}
 use Rattle.bracket.specs.Span.{Span, Each}
 use Rattle.measure.specs.Measure.{Fine, Digited}

@@ -6,7 +6,7 @@ use Prim.Native.Nat.{ℕ, suc, ◌^◌, ◌<◌}
 use native.Mathlib.Omega.{arith}
 use lib.Dec.{T}
 use lib.Ieee.{Float}
-use Rattle.exact.specs.Fraction.Order.{≼-by}
+use Rattle.exact.proofs.Fraction.Order.{≼-by}
 use Rattle.sheet.specs.declared.Sheet.{Sheet}
 use Rattle.sheet.specs.Range.{Width, InRange, Doubled}
 use Rattle.kind.specs.Kind.{widest}

@@ -2,11 +2,11 @@
 -- ends, for sum, difference, product and quotient by what is above zero; and which of the four results these are. Assumes nothing.
 use mathlib.Core.Logic.{inl, inr}
 use Rattle.exact.specs.Fraction.{Fraction, nat, negate, least, greatest, ◌⊕◌, ◌⊖◌, ◌⊗◌, ◌⊘◌, ◌≼◌, ◌≺◌, ◌≈◌}
-use Rattle.exact.specs.Fraction.Order.{≼_refl, ≼_trans, ≺→≼, ≺-≼-trans, ≼-or-≺, ≼-antisym, ≼-resp, ≈→≼, ≈→≽, ≈-sym}
-use Rattle.exact.specs.Fraction.Sum.{⊕-mono, ⊖-mono, negate-anti}
-use Rattle.exact.specs.Fraction.Product.{⊗-mono, ⊗-mono-left, ⊗-mono-right, ⊗-anti-left, ⊗-anti-right}
-use Rattle.exact.specs.Fraction.Quotient.{inv-anti, ⊘-is, ⊘-mono-left, ⊘-anti-right}
-use Rattle.exact.specs.Fraction.Least.{least-elim, greatest-elim, least-left, least-right, greatest-left, greatest-right, ≼-least, greatest-≼}
+use Rattle.exact.proofs.Fraction.Order.{≼_refl, ≼_trans, ≺→≼, ≺-≼-trans, ≼-or-≺, ≼-antisym, ≼-resp, ≈→≼, ≈→≽, ≈-sym}
+use Rattle.exact.proofs.Fraction.Sum.{⊕-mono, ⊖-mono, negate-anti}
+use Rattle.exact.proofs.Fraction.Product.{⊗-mono, ⊗-mono-left, ⊗-mono-right, ⊗-anti-left, ⊗-anti-right}
+use Rattle.exact.proofs.Fraction.Quotient.{inv-anti, ⊘-is, ⊘-mono-left, ⊘-anti-right}
+use Rattle.exact.proofs.Fraction.Least.{least-elim, greatest-elim, least-left, least-right, greatest-left, greatest-right, ≼-least, greatest-≼}
 use Rattle.exact.specs.Ends.{Within, least_over, greatest_over}
 
 -- the least is at or below each of the four, the greatest at or above

@@ -1,11 +1,11 @@
 -- The exponential of minus x at a level falls as x grows. Assumes nothing.
 use Prim.Native.Nat.{ℕ, zero, suc}
 use Rattle.exact.specs.Fraction.{Fraction, nat, ◌≼◌}
-use Rattle.exact.specs.Fraction.Order.{≼_refl}
-use Rattle.exact.specs.Fraction.Sum.{⊕-mono}
-use Rattle.exact.specs.Fraction.Product.{⊗-mono}
-use Rattle.exact.specs.Fraction.Quotient.{⊘-mono-left, ⊘-anti-right}
-use Rattle.exact.specs.Fraction.Parts.{nat-nonneg}
+use Rattle.exact.proofs.Fraction.Order.{≼_refl}
+use Rattle.exact.proofs.Fraction.Sum.{⊕-mono}
+use Rattle.exact.proofs.Fraction.Product.{⊗-mono}
+use Rattle.exact.proofs.Fraction.Quotient.{⊘-mono-left, ⊘-anti-right}
+use Rattle.exact.proofs.Fraction.Parts.{nat-nonneg}
 use Rattle.exact.specs.Series.{partial, expneg_at, exp_term}
 use Rattle.exact.proofs.Series.{exp_term-nonneg, exp_sum-pos}
 

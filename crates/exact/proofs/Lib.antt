@@ -1,3 +1,4 @@
+pub mod Fraction
 pub mod Bounds
 pub mod Falls
 pub mod Power

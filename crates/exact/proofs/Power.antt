@@ -5,9 +5,9 @@ use native.Mathlib.Omega.{arith}
 use native.Mathlib.Numerals.{add-one}
 use native.Mathlib.Nat.{add-zero, add-suc, pow-zero, pow-suc}
 use Rattle.exact.specs.Fraction.{Fraction, nat, ◌⊗◌, ◌≼◌, ◌≺◌, ◌≈◌}
-use Rattle.exact.specs.Fraction.Order.{≼_refl, ≈-refl, ≈-sym, ≈-trans, ≈-of-≡}
-use Rattle.exact.specs.Fraction.Product.{⊗-assoc, ⊗-middle, ⊗-cong, ⊗-one, one-⊗, ⊗-nonneg, ⊗-pos, ⊗-mono}
-use Rattle.exact.specs.Fraction.Parts.{nat-⊗, nat-nonneg, nat-≺}
+use Rattle.exact.proofs.Fraction.Order.{≼_refl, ≈-refl, ≈-sym, ≈-trans, ≈-of-≡}
+use Rattle.exact.proofs.Fraction.Product.{⊗-assoc, ⊗-middle, ⊗-cong, ⊗-one, one-⊗, ⊗-nonneg, ⊗-pos, ⊗-mono}
+use Rattle.exact.proofs.Fraction.Parts.{nat-⊗, nat-nonneg, nat-≺}
 use Rattle.exact.specs.Series.{power}
 
 pub power_zero : (x : Fraction) → power x 0 ≡ nat 1

@@ -4,11 +4,11 @@ use mathlib.Core.Bool.{false}
 use mathlib.Core.List.{[], ◌∷◌}
 use native.Mathlib.Nat.{zero-lt-suc}
 use Rattle.exact.specs.Fraction.{Fraction, nat, parts, ◌⊕◌, ◌⊖◌, ◌⊗◌, ◌⊘◌, ◌≼◌, ◌≺◌}
-use Rattle.exact.specs.Fraction.Order.{≼_refl, ≈-≼-trans, ≼-≈-trans}
-use Rattle.exact.specs.Fraction.Sum.{⊕-mono, ⊖-mono, ⊖-nonneg, ⊕-pos}
-use Rattle.exact.specs.Fraction.Quotient.{⊘-nonneg, ⊘-≼-⊘}
-use Rattle.exact.specs.Fraction.Parts.{nat-nonneg, nat-pos, nat-⊘}
-use Rattle.exact.specs.Fraction.Order.{≺-≼-trans}
+use Rattle.exact.proofs.Fraction.Order.{≼_refl, ≈-≼-trans, ≼-≈-trans}
+use Rattle.exact.proofs.Fraction.Sum.{⊕-mono, ⊖-mono, ⊖-nonneg, ⊕-pos}
+use Rattle.exact.proofs.Fraction.Quotient.{⊘-nonneg, ⊘-≼-⊘}
+use Rattle.exact.proofs.Fraction.Parts.{nat-nonneg, nat-pos, nat-⊘}
+use Rattle.exact.proofs.Fraction.Order.{≺-≼-trans}
 use Rattle.exact.specs.Ends.{Within}
 use Rattle.exact.proofs.Ring.{ring, var, num, ◌:+◌, ◌:-◌, ◌:*◌}
 

@@ -7,10 +7,10 @@ use mathlib.Core.List.{List, [], ◌∷◌}
 use lib.Dec.{leb, compare_is_eq}
 use borrow.Author.Tests.{eqb-true}
 use Rattle.exact.specs.Fraction.{Fraction, nat, negate, ◌⊕◌, ◌⊖◌, ◌⊗◌, ◌≈◌}
-use Rattle.exact.specs.Fraction.Order.{≈-refl, ≈-sym, ≈-trans, ≈-of-≡}
-use Rattle.exact.specs.Fraction.Sum.{⊕-cong, ⊖-cong, negate-cong, ⊕-assoc, ⊕-swap, zero_⊕, ⊕-zero, ⊖-zero, ⊖-⊕-⊖, ⊖-⊖-⊖, ⊖-self, negate-⊖, ⊖-balance}
-use Rattle.exact.specs.Fraction.Product.{⊗-cong, ⊗-assoc, ⊗-swap, ⊗-one, one-⊗, ⊗-zero, zero_⊗, ⊗-⊕, ⊕-⊗, ⊖-⊗-⊖, ⊗-middle}
-use Rattle.exact.specs.Fraction.Parts.{nat-⊕, nat-⊗}
+use Rattle.exact.proofs.Fraction.Order.{≈-refl, ≈-sym, ≈-trans, ≈-of-≡}
+use Rattle.exact.proofs.Fraction.Sum.{⊕-cong, ⊖-cong, negate-cong, ⊕-assoc, ⊕-swap, zero_⊕, ⊕-zero, ⊖-zero, ⊖-⊕-⊖, ⊖-⊖-⊖, ⊖-self, negate-⊖, ⊖-balance}
+use Rattle.exact.proofs.Fraction.Product.{⊗-cong, ⊗-assoc, ⊗-swap, ⊗-one, one-⊗, ⊗-zero, zero_⊗, ⊗-⊕, ⊕-⊗, ⊖-⊗-⊖, ⊗-middle}
+use Rattle.exact.proofs.Fraction.Parts.{nat-⊕, nat-⊗}
 
 infixl 65 ◌:+◌ ◌:-◌
 infixl 70 ◌:*◌

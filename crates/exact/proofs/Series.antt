@@ -6,11 +6,11 @@ use native.Mathlib.Numerals.{add-one}
 use native.Mathlib.Nat.{zero-lt-suc}
 use native.Mathlib.Decide.{le_ind}
 use Rattle.exact.specs.Fraction.{Fraction, nat, ◌⊕◌, ◌⊗◌, ◌⊘◌, ◌≼◌, ◌≺◌, ◌≈◌}
-use Rattle.exact.specs.Fraction.Order.{≼_refl, ≼_trans, ≺-≼-trans, ≈-refl, ≈-trans, ≈-of-≡, ≈→≼}
-use Rattle.exact.specs.Fraction.Sum.{⊕-cong, ⊕-nonneg, ≼-⊕-right}
-use Rattle.exact.specs.Fraction.Product.{⊗-cong, ⊗-assoc, ⊗-nonneg}
-use Rattle.exact.specs.Fraction.Quotient.{⊘-cong, ⊘-nonneg, ⊘-pos, ⊘-anti-right, ⊘-one}
-use Rattle.exact.specs.Fraction.Parts.{nat-nonneg, nat-pos, nat-≺}
+use Rattle.exact.proofs.Fraction.Order.{≼_refl, ≼_trans, ≺-≼-trans, ≈-refl, ≈-trans, ≈-of-≡, ≈→≼}
+use Rattle.exact.proofs.Fraction.Sum.{⊕-cong, ⊕-nonneg, ≼-⊕-right}
+use Rattle.exact.proofs.Fraction.Product.{⊗-cong, ⊗-assoc, ⊗-nonneg}
+use Rattle.exact.proofs.Fraction.Quotient.{⊘-cong, ⊘-nonneg, ⊘-pos, ⊘-anti-right, ⊘-one}
+use Rattle.exact.proofs.Fraction.Parts.{nat-nonneg, nat-pos, nat-≺}
 use Rattle.exact.specs.Series.{power, partial, exp_term, expneg_at, ln_term, ln_at}
 use Rattle.exact.proofs.Power.{power-cong, power-nonneg}
 

@@ -6,11 +6,11 @@ use native.Mathlib.Omega.{arith}
 use native.Mathlib.Nat.{zero-lt-suc}
 use native.Mathlib.Decide.{le_ind}
 use Rattle.exact.specs.Fraction.{Fraction, nat, parts, leq, ◌⊕◌, ◌⊗◌, ◌⊘◌, ◌≼◌}
-use Rattle.exact.specs.Fraction.Order.{≼_refl, ≼_trans, ≈→≼, ≈→≽, ≈-sym, ≼-≈-trans, ≈-≼-trans, ≼-by}
-use Rattle.exact.specs.Fraction.Sum.{⊕-assoc, ⊕-mono, ⊕-cong, ⊕-mono-right, ⊕-nonneg, ≼-⊕-right}
-use Rattle.exact.specs.Fraction.Product.{⊗-⊕, ⊗-mono, ⊗-mono-right, ⊗-one}
-use Rattle.exact.specs.Fraction.Quotient.{⊕-⊘, ⊘-≼, ⊘-mono-left, ⊘-anti-right}
-use Rattle.exact.specs.Fraction.Parts.{nat-≼, nat-⊕, nat-pos, nat-nonneg}
+use Rattle.exact.proofs.Fraction.Order.{≼_refl, ≼_trans, ≈→≼, ≈→≽, ≈-sym, ≼-≈-trans, ≈-≼-trans, ≼-by}
+use Rattle.exact.proofs.Fraction.Sum.{⊕-assoc, ⊕-mono, ⊕-cong, ⊕-mono-right, ⊕-nonneg, ≼-⊕-right}
+use Rattle.exact.proofs.Fraction.Product.{⊗-⊕, ⊗-mono, ⊗-mono-right, ⊗-one}
+use Rattle.exact.proofs.Fraction.Quotient.{⊕-⊘, ⊘-≼, ⊘-mono-left, ⊘-anti-right}
+use Rattle.exact.proofs.Fraction.Parts.{nat-≼, nat-⊕, nat-pos, nat-nonneg}
 use Rattle.exact.specs.Ends.{Within}
 use Rattle.exact.specs.Series.{power, partial, exp_term, expneg_at, ln_term, ln_at}
 use Rattle.exact.proofs.Power.{power-nonneg}

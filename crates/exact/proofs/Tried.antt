@@ -2,7 +2,7 @@
 use mathlib.Core.Path.{◌≡◌, refl}
 use mathlib.Core.Bool.{true, false}
 use Rattle.exact.specs.Fraction.{nat, parts, negate, negative, leq, least, ◌⊕◌, ◌⊖◌, ◌⊗◌, inv, ◌⊘◌, ◌≺◌, ◌≈◌}
-use Rattle.exact.specs.Fraction.Order.{≼-by, ≺-by, ≈-by}
+use Rattle.exact.proofs.Fraction.Order.{≼-by, ≺-by, ≈-by}
 use Rattle.exact.specs.Ends.{Within}
 use Rattle.exact.specs.Series.{power, partial, exp_term, expneg_at, ln_term, ln_at}
 

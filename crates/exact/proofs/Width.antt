@@ -3,9 +3,9 @@
 use mathlib.Core.Path.{refl}
 use mathlib.Core.List.{[], ◌∷◌}
 use Rattle.exact.specs.Fraction.{Fraction, nat, negate, ◌⊕◌, ◌⊖◌, ◌≼◌, ◌≺◌, ◌≈◌}
-use Rattle.exact.specs.Fraction.Order.{≼_trans, ≺-≼-trans, ≺-≈-trans, ≈-≼-trans, ≼-≈-trans}
-use Rattle.exact.specs.Fraction.Sum.{negate-anti, negate-negate, ⊕-mono-left, ⊖-pos, negate-cong}
-use Rattle.exact.specs.Fraction.Least.{greatest-left, greatest-right, greatest-≼, greatest-cong}
+use Rattle.exact.proofs.Fraction.Order.{≼_trans, ≺-≼-trans, ≺-≈-trans, ≈-≼-trans, ≼-≈-trans}
+use Rattle.exact.proofs.Fraction.Sum.{negate-anti, negate-negate, ⊕-mono-left, ⊖-pos, negate-cong}
+use Rattle.exact.proofs.Fraction.Least.{greatest-left, greatest-right, greatest-≼, greatest-cong}
 use Rattle.exact.specs.Ends.{Within, width, absolute}
 use Rattle.exact.proofs.Ring.{ring, var, minus, ◌:+◌, ◌:-◌}
 

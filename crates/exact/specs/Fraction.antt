@@ -3,23 +3,15 @@
 use Rattle.std.specs.Prelude.{ℕ, ◌+◌, ◌*◌, ◌-◌, ◌≤◌, ◌<◌, max, ◌≡◌, Bool, true, false, cond, leb, ltb}
 use Rattle.std.proofs.Common.{mul-pos, zero-lt-suc}
 use Rattle.std.proofs.Math.Nat.{le-max_left}
-pub mod Order
-pub mod Sum
-pub mod Product
-pub mod Quotient
-pub mod Parts
-pub mod Readers
-pub mod Units
-pub mod Least
 
 infixl 65 ◌⊕◌ ◌⊖◌
 infixl 70 ◌⊗◌ ◌⊘◌
 infix 50 ◌≼◌ ◌≺◌ ◌≈◌
 pub record Fraction : Type 0 where
-  p : ℕ
-  n : ℕ
-  d : ℕ
-  pos : 0 < d
+  pub p : ℕ
+  pub n : ℕ
+  pub d : ℕ
+  pub pos : 0 < d
 
 -- the whole number a
 unfoldable pub nat : ℕ → Fraction
@@ -61,13 +53,13 @@ x ⊘ y = x ⊗ inv y
 
 -- the order, by cross products
 pub record ◌≼◌ (x y : Fraction) : Type 0 where
-  le : x.p * y.d + y.n * x.d ≤ y.p * x.d + x.n * y.d
+  pub le : x.p * y.d + y.n * x.d ≤ y.p * x.d + x.n * y.d
 
 pub record ◌≺◌ (x y : Fraction) : Type 0 where
-  lt : x.p * y.d + y.n * x.d < y.p * x.d + x.n * y.d
+  pub lt : x.p * y.d + y.n * x.d < y.p * x.d + x.n * y.d
 
 pub record ◌≈◌ (x y : Fraction) : Type 0 where
-  eq : x.p * y.d + y.n * x.d ≡ y.p * x.d + x.n * y.d
+  pub eq : x.p * y.d + y.n * x.d ≡ y.p * x.d + x.n * y.d
 
 -- the order as a test
 unfoldable pub leq : Fraction → Fraction → Bool

@@ -1,8 +1,8 @@
 -- Digits as the loops test them; an end of the exponential's argument is in range, and from 2^-57 to 64. Assumes nothing.
 use Rattle.std.proofs.Common.{◌≡◌, ℕ, suc, ◌+◌, ◌-◌, ◌*◌, ◌/◌, ◌%◌, ◌^◌, ◌<◌, ◌≤◌, false, refl, inr, le_of_lt, mul-le-mul_right, div-lt_iff_lt-mul, le-div_iff_mul-le, arith, lit≤, pow_pos, pow_mono, pow-add}
 use Rattle.exact.specs.Fraction.{nat, parts, ◌≼◌}
-use Rattle.exact.specs.Fraction.Order.{≼_refl, ≼-≈-trans}
-use Rattle.exact.specs.Fraction.Parts.{parts-≼, parts-nat}
+use Rattle.exact.proofs.Fraction.Order.{≼_refl, ≼-≈-trans}
+use Rattle.exact.proofs.Fraction.Parts.{parts-≼, parts-nat}
 use Rattle.sheet.specs.declared.Sheet.{Sheet}
 use Rattle.sheet.specs.Number.{bias, value, Digits}
 use Rattle.sheet.specs.Range.{InRange, Width}

@@ -8,11 +8,11 @@ use native.Mathlib.Nat.{le_antisymm, mul-lt-mul_of_pos_right, le_trans, mul-le-m
 use native.Mathlib.Omega.{arith}
 use lib.Pow.{pow-add, pow_mono, pow_pos}
 use Rattle.exact.specs.Fraction.{Fraction, nat, parts, top, bottom, negate, ◌⊕◌, ◌⊖◌, ◌⊗◌, ◌⊘◌, ◌≼◌, ◌≺◌, ◌≈◌}
-use Rattle.exact.specs.Fraction.Order.{≼_trans, ≼-≈-trans, ≼-not-≺, ≈→≼, ≈-≼-trans, ≺-≈-trans, ≈-sym, ≈-trans, ≈-refl}
-use Rattle.exact.specs.Fraction.Sum.{⊕-cong, ⊖-is, negate-⊖, negate-cong, ⊕-comm}
-use Rattle.exact.specs.Fraction.Product.{⊗-cong}
-use Rattle.exact.specs.Fraction.Quotient.{⊘-cong}
-use Rattle.exact.specs.Fraction.Parts.{≼-negative, as_parts, bottom-pos, ≼-parts, parts-nonneg, parts-nat, parts-zero, parts-nonpos, parts-pos, parts-⊗, parts-⊘, parts-⊕, parts-⊕_less, parts-negate, parts-≈}
+use Rattle.exact.proofs.Fraction.Order.{≼_trans, ≼-≈-trans, ≼-not-≺, ≈→≼, ≈-≼-trans, ≺-≈-trans, ≈-sym, ≈-trans, ≈-refl}
+use Rattle.exact.proofs.Fraction.Sum.{⊕-cong, ⊖-is, negate-⊖, negate-cong, ⊕-comm}
+use Rattle.exact.proofs.Fraction.Product.{⊗-cong}
+use Rattle.exact.proofs.Fraction.Quotient.{⊘-cong}
+use Rattle.exact.proofs.Fraction.Parts.{≼-negative, as_parts, bottom-pos, ≼-parts, parts-nonneg, parts-nat, parts-zero, parts-nonpos, parts-pos, parts-⊗, parts-⊘, parts-⊕, parts-⊕_less, parts-negate, parts-≈}
 use Rattle.sheet.specs.declared.Sheet.{Sheet}
 use Rattle.sheet.specs.Magnitude.{Magnitude, units, round_mag}
 use Rattle.sheet.specs.Number.{bias, value}

@@ -8,10 +8,10 @@ use native.Mathlib.Nat.{le_refl, le_of_mul-le-mul_right, eq_of_mul-eq-mul_right,
 use native.Mathlib.Omega.{arith}
 use lib.Pow.{pow_mono, pow_pos}
 use Rattle.exact.specs.Fraction.{Fraction, nat, parts, ◌⊕◌, ◌⊖◌, ◌⊗◌, ◌⊘◌, ◌≺◌, ◌≈◌}
-use Rattle.exact.specs.Fraction.Parts.{nat-pos, ≈-parts, ≼-parts-zero}
-use Rattle.exact.specs.Fraction.Product.{⊗-pos}
-use Rattle.exact.specs.Fraction.Quotient.{⊘-pos}
-use Rattle.exact.specs.Fraction.Order.{≈→≼, ≈-sym}
+use Rattle.exact.proofs.Fraction.Parts.{nat-pos, ≈-parts, ≼-parts-zero}
+use Rattle.exact.proofs.Fraction.Product.{⊗-pos}
+use Rattle.exact.proofs.Fraction.Quotient.{⊘-pos}
+use Rattle.exact.proofs.Fraction.Order.{≈→≼, ≈-sym}
 use Rattle.sheet.specs.declared.Sheet.{Sheet}
 use Rattle.sheet.specs.Number.{bias, value, Spelled}
 use Rattle.sheet.specs.Round.{round}

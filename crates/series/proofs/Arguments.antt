@@ -4,8 +4,8 @@ use mathlib.Core.Bool.{false}
 use native.Mathlib.Omega.{arith}
 use lib.Dec.{lit≤}
 use Rattle.exact.specs.Fraction.{Fraction, nat, parts, ◌≼◌}
-use Rattle.exact.specs.Fraction.Order.{≼_trans, ≺-≼-trans}
-use Rattle.exact.specs.Fraction.Parts.{parts-nonneg, parts-pos}
+use Rattle.exact.proofs.Fraction.Order.{≼_trans, ≺-≼-trans}
+use Rattle.exact.proofs.Fraction.Parts.{parts-nonneg, parts-pos}
 use Rattle.sheet.specs.Range.{Width}
 use Rattle.doubles.specs.Ratio.{IsLargest}
 use Rattle.bracket.specs.declared.Bracket.{Bracket}

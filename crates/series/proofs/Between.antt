@@ -1,8 +1,8 @@
 -- What lies from a sum to the sum with its last addend once more lies in the bracket that 01 makes of them. Assumes nothing.
 use Prim.Native.Nat.{ℕ, suc}
 use Rattle.exact.specs.Fraction.{Fraction, ◌⊕◌}
-use Rattle.exact.specs.Fraction.Order.{≼_trans}
-use Rattle.exact.specs.Fraction.Sum.{⊕-mono}
+use Rattle.exact.proofs.Fraction.Order.{≼_trans}
+use Rattle.exact.proofs.Fraction.Sum.{⊕-mono}
 use Rattle.exact.specs.Ends.{Within}
 use Rattle.bracket.specs.Span.{◌∈◌}
 use Rattle.bracket.specs.declared.Bracket.{Bracket}

@@ -7,11 +7,11 @@ use native.Mathlib.Omega.{arith}
 use lib.Dec.{lit≤}
 use lib.Pow.{pow_pos, pow-lt}
 use Rattle.exact.specs.Fraction.{Fraction, nat, leq, ◌⊕◌, ◌⊖◌, ◌⊗◌, ◌⊘◌, ◌≺◌, ◌≈◌}
-use Rattle.exact.specs.Fraction.Order.{≼-antisym, ≈→≼, ≈→≽, ≈-refl, ≈-sym, ≈-trans, ≺-≈-trans}
-use Rattle.exact.specs.Fraction.Sum.{⊕-cong, ⊖-cong, ⊕-zero, ⊖-self}
-use Rattle.exact.specs.Fraction.Product.{⊗-cong, ⊗-zero, zero_⊗, ⊗-one}
-use Rattle.exact.specs.Fraction.Quotient.{⊘-cong, ⊘-mono-left, zero_⊘, ⊘-self}
-use Rattle.exact.specs.Fraction.Parts.{nat-pos}
+use Rattle.exact.proofs.Fraction.Order.{≼-antisym, ≈→≼, ≈→≽, ≈-refl, ≈-sym, ≈-trans, ≺-≈-trans}
+use Rattle.exact.proofs.Fraction.Sum.{⊕-cong, ⊖-cong, ⊕-zero, ⊖-self}
+use Rattle.exact.proofs.Fraction.Product.{⊗-cong, ⊗-zero, zero_⊗, ⊗-one}
+use Rattle.exact.proofs.Fraction.Quotient.{⊘-cong, ⊘-mono-left, zero_⊘, ⊘-self}
+use Rattle.exact.proofs.Fraction.Parts.{nat-pos}
 use Rattle.sheet.specs.Number.{plain_zero}
 use Rattle.sheet.specs.Round.{round, down}
 use Rattle.sheet.proofs.Laws.{round_nought, round_resp}

@@ -8,8 +8,8 @@ use native.Mathlib.Omega.{arith}
 use lib.Dec.{lit≤}
 use lib.Pow.{pow_pos, pow_mono, pow-add}
 use Rattle.exact.specs.Fraction.{Fraction, parts, ◌⊗◌, ◌≼◌}
-use Rattle.exact.specs.Fraction.Order.{≼_trans, ≺→≼, ≼-or-≺, ≈-sym, ≼-≈-trans}
-use Rattle.exact.specs.Fraction.Parts.{parts-≼, parts-⊗, ≼-parts}
+use Rattle.exact.proofs.Fraction.Order.{≼_trans, ≺→≼, ≼-or-≺, ≈-sym, ≼-≈-trans}
+use Rattle.exact.proofs.Fraction.Parts.{parts-≼, parts-⊗, ≼-parts}
 use Rattle.sheet.specs.declared.Sheet.{Sheet}
 use Rattle.sheet.specs.Number.{bias, value}
 use Rattle.sheet.specs.Round.{down, up}

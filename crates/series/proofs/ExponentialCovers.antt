@@ -5,11 +5,11 @@ use mathlib.Core.Bool.{false}
 use native.Mathlib.Omega.{arith}
 use native.Mathlib.Nat.{zero-lt-suc}
 use Rattle.exact.specs.Fraction.{Fraction, nat, ◌⊕◌, ◌⊗◌, ◌⊘◌, ◌≼◌}
-use Rattle.exact.specs.Fraction.Order.{≼_refl, ≼_trans, ≺-≼-trans}
-use Rattle.exact.specs.Fraction.Sum.{≼-⊕-right}
-use Rattle.exact.specs.Fraction.Product.{⊗-nonneg}
-use Rattle.exact.specs.Fraction.Quotient.{⊘-nonneg}
-use Rattle.exact.specs.Fraction.Parts.{nat-pos, nat-nonneg}
+use Rattle.exact.proofs.Fraction.Order.{≼_refl, ≼_trans, ≺-≼-trans}
+use Rattle.exact.proofs.Fraction.Sum.{≼-⊕-right}
+use Rattle.exact.proofs.Fraction.Product.{⊗-nonneg}
+use Rattle.exact.proofs.Fraction.Quotient.{⊘-nonneg}
+use Rattle.exact.proofs.Fraction.Parts.{nat-pos, nat-nonneg}
 use Rattle.exact.specs.Series.{partial, expneg_at, exp_term as exact_term}
 use Rattle.exact.proofs.Tail.{exp_tail_256}
 use Rattle.bracket.specs.Span.{Span, Ordered, Each, Sign, over, whole, ◌∈◌}

@@ -7,8 +7,8 @@ use native.Mathlib.Omega.{arith}
 use lib.Dec.{lit≤}
 use lib.Pow.{pow_mono, pow-add}
 use Rattle.exact.specs.Fraction.{Fraction, nat, ◌⊕◌, ◌⊘◌, ◌≼◌}
-use Rattle.exact.specs.Fraction.Order.{≼_trans, ≺→≼, ≺-≼-trans, ≈-≼-trans}
-use Rattle.exact.specs.Fraction.Sum.{⊕-mono}
+use Rattle.exact.proofs.Fraction.Order.{≼_trans, ≺→≼, ≺-≼-trans, ≈-≼-trans}
+use Rattle.exact.proofs.Fraction.Sum.{⊕-mono}
 use Rattle.sheet.specs.Number.{bias, value}
 use Rattle.bracket.specs.declared.Bracket.{Bracket}
 use Rattle.bracket.specs.Span.{Span, Ordered, whole, point, over}
@@ -25,7 +25,7 @@ use Rattle.measure.specs.Measure.{Sized}
 use Rattle.measure.proofs.Lift.{each_map}
 use Rattle.measure.proofs.Measure.{nat-sized, sized_in}
 use Rattle.measure.proofs.Sizes.{Positive, Plus, divided-plus}
-use Rattle.exact.specs.Fraction.Parts.{nat-pos}
+use Rattle.exact.proofs.Fraction.Parts.{nat-pos}
 use Rattle.series.proofs.Rise.{log, log-least, rise, rise-1, rise-128}
 use Rattle.measure.proofs.Lift.{over-both, rounded-both}
 use Rattle.measure.proofs.Measure.{⊘-sized, round_sized, digited_sized}

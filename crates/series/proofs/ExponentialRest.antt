@@ -8,10 +8,10 @@ use native.Mathlib.Omega.{arith}
 use lib.Dec.{lit≤}
 use lib.Pow.{pow-lt, pow_mono}
 use Rattle.exact.specs.Fraction.{nat, ◌⊗◌, ◌⊘◌, ◌≼◌, ◌≺◌}
-use Rattle.exact.specs.Fraction.Order.{≼_trans, ≼_refl, ≺-≼-trans, ≼-≈-trans, ≈-≼-trans, ≈-sym}
-use Rattle.exact.specs.Fraction.Product.{⊗-mono, ⊗-pos}
-use Rattle.exact.specs.Fraction.Quotient.{⊘-pos, ⊘-≼}
-use Rattle.exact.specs.Fraction.Parts.{nat-pos, nat-nonneg, nat-≼}
+use Rattle.exact.proofs.Fraction.Order.{≼_trans, ≼_refl, ≺-≼-trans, ≼-≈-trans, ≈-≼-trans, ≈-sym}
+use Rattle.exact.proofs.Fraction.Product.{⊗-mono, ⊗-pos}
+use Rattle.exact.proofs.Fraction.Quotient.{⊘-pos, ⊘-≼}
+use Rattle.exact.proofs.Fraction.Parts.{nat-pos, nat-nonneg, nat-≼}
 use Rattle.sheet.specs.Number.{value}
 use Rattle.sheet.specs.Range.{extent}
 use Rattle.bracket.specs.declared.Bracket.{Bracket}

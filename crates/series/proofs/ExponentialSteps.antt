@@ -7,7 +7,7 @@ use native.Mathlib.Numerals.{add-one}
 use native.Mathlib.Omega.{arith}
 use lib.Dec.{lit≤}
 use Rattle.exact.specs.Fraction.{nat, leq, ◌≼◌, ◌≺◌, ◌≈◌}
-use Rattle.exact.specs.Fraction.Order.{leq-true, ≼_trans, ≺-≼-trans, ≈-sym, ≈-≼-trans, ≼-≈-trans}
+use Rattle.exact.proofs.Fraction.Order.{leq-true, ≼_trans, ≺-≼-trans, ≈-sym, ≈-≼-trans, ≼-≈-trans}
 use Rattle.sheet.specs.declared.Sheet.{Sheet}
 use Rattle.sheet.specs.Number.{bias, value}
 use Rattle.sheet.specs.Round.{round}
@@ -33,7 +33,7 @@ use Rattle.series.proofs.ExponentialRest.{Stretching, total-rest}
 use Rattle.series.proofs.Fits.{value-under}
 use Rattle.measure.proofs.Lift.{each_map}
 use Rattle.measure.proofs.Measure.{sized_in}
-use Rattle.exact.specs.Fraction.Order.{≺→≼}
+use Rattle.exact.proofs.Fraction.Order.{≺→≼}
 use Rattle.series.proofs.Tight.{units-sized}
 
 -- ---- the rule

@@ -7,8 +7,8 @@ use native.Mathlib.Nat.{mul-lt-mul_of_pos_right}
 use native.Mathlib.Omega.{arith}
 use lib.Pow.{pow_pos, pow-add}
 use Rattle.exact.specs.Fraction.{◌≼◌}
-use Rattle.exact.specs.Fraction.Order.{≺-≼-trans}
-use Rattle.exact.specs.Fraction.Units.{≼-units, units-≼}
+use Rattle.exact.proofs.Fraction.Order.{≺-≼-trans}
+use Rattle.exact.proofs.Fraction.Units.{≼-units, units-≼}
 use Rattle.sheet.specs.declared.Sheet.{Sheet}
 use Rattle.sheet.specs.Number.{bias, value, Spelled}
 use Rattle.sheet.specs.Range.{extent, Width, Span as Size}

@@ -8,7 +8,7 @@ use native.Mathlib.Omega.{arith}
 use lib.Dec.{lit≤}
 use lib.Pow.{pow-add}
 use Rattle.exact.specs.Fraction.{Fraction, nat, parts, leq, ◌⊘◌, ◌≼◌}
-use Rattle.exact.specs.Fraction.Order.{≼-by}
+use Rattle.exact.proofs.Fraction.Order.{≼-by}
 use Rattle.sheet.specs.Number.{bias, Spelled}
 use Rattle.doubles.specs.Ratio.{ratio_exponent, IsLargest}
 use Rattle.doubles.proofs.Largest.{ratio_largest, few-doublings}

@@ -3,8 +3,8 @@ use Prim.Native.Nat.{ℕ, zero, suc, ◌+◌, ◌*◌, ◌≤◌}
 use mathlib.Core.Bool.{false}
 use native.Mathlib.Omega.{arith}
 use Rattle.exact.specs.Fraction.{Fraction, nat, parts, ◌≼◌}
-use Rattle.exact.specs.Fraction.Order.{≼_refl, ≈-sym}
-use Rattle.exact.specs.Fraction.Parts.{nat-pos, parts-nonneg}
+use Rattle.exact.proofs.Fraction.Order.{≼_refl, ≈-sym}
+use Rattle.exact.proofs.Fraction.Parts.{nat-pos, parts-nonneg}
 use Rattle.exact.specs.Series.{power, partial, ln_term, ln_at}
 use Rattle.exact.proofs.Power.{power-one}
 use Rattle.exact.proofs.Series.{power-odd}

@@ -6,11 +6,11 @@ use mathlib.Core.Bool.{false}
 use mathlib.Core.Logic.{inl, inr}
 use native.Mathlib.Omega.{arith}
 use Rattle.exact.specs.Fraction.{Fraction, nat, parts, ◌⊕◌, ◌⊖◌, ◌⊗◌, ◌⊘◌, leq, ◌≼◌, ◌≺◌, ◌≈◌}
-use Rattle.exact.specs.Fraction.Order.{≼_refl, ≼_trans, ≺→≼, ≺-≼-trans, ≼-or-≺, ≺-≈-trans, ≈-refl, ≈-sym, ≈-trans, ≈-of-≡, ≈→≼, ≈-≼-trans, ≼-≈-trans, ≈-by, ≼-by}
-use Rattle.exact.specs.Fraction.Sum.{≼-⊕-right, ⊕-comm, ⊕-mono-right, ⊕-pos, ⊕-assoc, ⊕-cong, ⊖-≼, ⊖-nonneg}
-use Rattle.exact.specs.Fraction.Product.{⊗-one, ⊗-pos, one-⊗, ⊗-cong, ⊗-assoc, ⊗-comm, ⊕-⊗, ⊗-⊕, ⊗-mono-right}
-use Rattle.exact.specs.Fraction.Quotient.{≼-⊘, ⊘-≼, ⊘-nonneg}
-use Rattle.exact.specs.Fraction.Parts.{nat-≼, nat-pos, nat-nonneg, parts-nonneg, parts-pos, nat-⊗}
+use Rattle.exact.proofs.Fraction.Order.{≼_refl, ≼_trans, ≺→≼, ≺-≼-trans, ≼-or-≺, ≺-≈-trans, ≈-refl, ≈-sym, ≈-trans, ≈-of-≡, ≈→≼, ≈-≼-trans, ≼-≈-trans, ≈-by, ≼-by}
+use Rattle.exact.proofs.Fraction.Sum.{≼-⊕-right, ⊕-comm, ⊕-mono-right, ⊕-pos, ⊕-assoc, ⊕-cong, ⊖-≼, ⊖-nonneg}
+use Rattle.exact.proofs.Fraction.Product.{⊗-one, ⊗-pos, one-⊗, ⊗-cong, ⊗-assoc, ⊗-comm, ⊕-⊗, ⊗-⊕, ⊗-mono-right}
+use Rattle.exact.proofs.Fraction.Quotient.{≼-⊘, ⊘-≼, ⊘-nonneg}
+use Rattle.exact.proofs.Fraction.Parts.{nat-≼, nat-pos, nat-nonneg, parts-nonneg, parts-pos, nat-⊗}
 use lib.Dec.{lit<}
 use lib.Pow.{pow_pos, pow-add}
 use Rattle.doubles.specs.Ratio.{ratio_exponent, IsLargest}

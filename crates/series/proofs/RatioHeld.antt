@@ -7,8 +7,8 @@ use native.Mathlib.Omega.{arith}
 use lib.Dec.{lit≤}
 use lib.Pow.{pow_pos, pow_mono, pow-add}
 use Rattle.exact.specs.Fraction.{Fraction, nat, parts, ◌⊕◌, ◌⊖◌, ◌⊗◌, ◌≼◌, ◌≺◌}
-use Rattle.exact.specs.Fraction.Order.{≈-sym, ≈-≼-trans, ≼-≈-trans}
-use Rattle.exact.specs.Fraction.Parts.{parts-nat}
+use Rattle.exact.proofs.Fraction.Order.{≈-sym, ≈-≼-trans, ≼-≈-trans}
+use Rattle.exact.proofs.Fraction.Parts.{parts-nat}
 use Rattle.sheet.specs.Number.{bias, value}
 use Rattle.sheet.specs.Range.{Width}
 use Rattle.doubles.specs.Ratio.{IsLargest}

@@ -8,10 +8,10 @@ use native.Mathlib.Omega.{arith}
 use lib.Dec.{lit≤}
 use lib.Pow.{pow_pos, pow_mono}
 use Rattle.exact.specs.Fraction.{Fraction, nat, parts, leq, ◌⊗◌, ◌⊘◌, ◌≼◌, ◌≺◌, ◌≈◌}
-use Rattle.exact.specs.Fraction.Order.{≼_refl, ≼_trans, ≺→≼, ≺-≼-trans, ≼-by, ≈→≼, ≈-refl, ≈-sym, ≈-trans, ≈-≼-trans, ≼-≈-trans}
-use Rattle.exact.specs.Fraction.Product.{one-⊗, ⊗-one, ⊗-assoc, ⊗-comm, ⊗-cong, ⊗-mono-left, ⊗-mono-right}
-use Rattle.exact.specs.Fraction.Quotient.{≼-⊘, ⊘-≼}
-use Rattle.exact.specs.Fraction.Parts.{parts-nonneg, nat-nonneg, nat-≼}
+use Rattle.exact.proofs.Fraction.Order.{≼_refl, ≼_trans, ≺→≼, ≺-≼-trans, ≼-by, ≈→≼, ≈-refl, ≈-sym, ≈-trans, ≈-≼-trans, ≼-≈-trans}
+use Rattle.exact.proofs.Fraction.Product.{one-⊗, ⊗-one, ⊗-assoc, ⊗-comm, ⊗-cong, ⊗-mono-left, ⊗-mono-right}
+use Rattle.exact.proofs.Fraction.Quotient.{≼-⊘, ⊘-≼}
+use Rattle.exact.proofs.Fraction.Parts.{parts-nonneg, nat-nonneg, nat-≼}
 use Rattle.sheet.specs.Number.{bias, value}
 use Rattle.sheet.specs.Round.{down, up}
 use Rattle.sheet.proofs.Laws.{down_le, up_ge}

@@ -8,8 +8,8 @@ use lib.Ieee.{Float}
 use lib.Ieee.Scale.{finite}
 use lib.Pow.{pow-lt}
 use Rattle.exact.specs.Fraction.{Fraction, nat, parts, ◌≼◌, ◌≺◌}
-use Rattle.exact.specs.Fraction.Order.{≼-by, ≼_trans}
-use Rattle.exact.specs.Fraction.Parts.{parts-nonneg}
+use Rattle.exact.proofs.Fraction.Order.{≼-by, ≼_trans}
+use Rattle.exact.proofs.Fraction.Parts.{parts-nonneg}
 use Rattle.sheet.specs.Number.{value}
 use Rattle.sheet.specs.Range.{Width}
 use Rattle.sheet.proofs.Live.{few-digits}

@@ -15,12 +15,12 @@ use lib.Ieee.{size}
 use lib.Ieee.Digits.{size-lt, size-le, size_reaches}
 use native.Mathlib.Nat.{mul_assoc, lt_of_lt_of_le}
 use lib.Pow.{shl_lt, pow_pos, pow-lt, pow_mono, pow-add}
-use Rattle.exact.specs.Fraction.Sum.{negate-cong}
+use Rattle.exact.proofs.Fraction.Sum.{negate-cong}
 use Rattle.sheet.specs.Number.{negate_sheet}
 use Rattle.sheet.proofs.Laws.{negate-value, negate-spelled}
 use Rattle.exact.specs.Fraction.{negate, Fraction, nat, parts, ◌≼◌, ◌≈◌}
-use Rattle.exact.specs.Fraction.Order.{≈-of-≡, ≈-trans, ≈-sym, ≈-≼-trans, ≼-≈-trans}
-use Rattle.exact.specs.Fraction.Parts.{parts-≈, parts-nat}
+use Rattle.exact.proofs.Fraction.Order.{≈-of-≡, ≈-trans, ≈-sym, ≈-≼-trans, ≼-≈-trans}
+use Rattle.exact.proofs.Fraction.Parts.{parts-≈, parts-nat}
 use Rattle.sheet.specs.declared.Sheet.{Sheet}
 use Rattle.sheet.specs.Number.{bias, value, Spelled}
 use Rattle.bracket.specs.Span.{Span}

@@ -4,10 +4,10 @@ use mathlib.Core.Path.{◌≡◌, refl}
 use mathlib.Core.Bool.{true, false}
 use Prim.Native.Nat.{ℕ, zero, suc, ◌+◌, ◌*◌}
 use Rattle.exact.specs.Fraction.{Fraction, nat, ◌⊕◌, ◌⊗◌, ◌⊘◌, ◌≼◌}
-use Rattle.exact.specs.Fraction.Order.{≼_refl, ≼_trans, ≈-sym, ≈-≼-trans, ≼-≈-trans}
-use Rattle.exact.specs.Fraction.Sum.{⊕-mono, ⊕-zero}
-use Rattle.exact.specs.Fraction.Product.{⊗-nonneg, ⊗-square, zero_⊗, ⊗-anti-left, ⊗-mono-left}
-use Rattle.exact.specs.Fraction.Quotient.{⊘-mono-left, zero_⊘, ⊘-nonneg, ⊘-one}
+use Rattle.exact.proofs.Fraction.Order.{≼_refl, ≼_trans, ≈-sym, ≈-≼-trans, ≼-≈-trans}
+use Rattle.exact.proofs.Fraction.Sum.{⊕-mono, ⊕-zero}
+use Rattle.exact.proofs.Fraction.Product.{⊗-nonneg, ⊗-square, zero_⊗, ⊗-anti-left, ⊗-mono-left}
+use Rattle.exact.proofs.Fraction.Quotient.{⊘-mono-left, zero_⊘, ⊘-nonneg, ⊘-one}
 use Rattle.sheet.specs.Number.{value, Spelled}
 use Rattle.sheet.proofs.Laws.{up_ge, up_least}
 use Rattle.bracket.specs.Span.{Ordered, Each, Sign, whole, over}

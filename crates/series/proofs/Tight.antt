@@ -8,9 +8,9 @@ use native.Mathlib.Omega.{arith}
 use native.Mathlib.Nat.{mul-le-mul_right}
 use lib.Pow.{pow_pos, pow-add}
 use Rattle.exact.specs.Fraction.{Fraction, nat, parts, negate, ◌≼◌, ◌≈◌}
-use Rattle.exact.specs.Fraction.Order.{≼_trans, ≼-antisym, ≼-not-≺, ≺→≼, ≈→≼, ≈→≽, ≈-refl, ≈-sym, ≈-trans, ≈-≼-trans, ≼-≈-trans, ≈-≺-trans}
-use Rattle.exact.specs.Fraction.Sum.{negate-nonpos}
-use Rattle.exact.specs.Fraction.Parts.{parts-≼, parts-≼_below, parts-neg, ≼-parts, ≼-parts-below, parts-negate, parts-nonneg, parts-nonpos, parts-pos, parts-zero}
+use Rattle.exact.proofs.Fraction.Order.{≼_trans, ≼-antisym, ≼-not-≺, ≺→≼, ≈→≼, ≈→≽, ≈-refl, ≈-sym, ≈-trans, ≈-≼-trans, ≼-≈-trans, ≈-≺-trans}
+use Rattle.exact.proofs.Fraction.Sum.{negate-nonpos}
+use Rattle.exact.proofs.Fraction.Parts.{parts-≼, parts-≼_below, parts-neg, ≼-parts, ≼-parts-below, parts-negate, parts-nonneg, parts-nonpos, parts-pos, parts-zero}
 use Rattle.sheet.specs.declared.Sheet.{Sheet}
 use Rattle.sheet.specs.Number.{bias, value, Spelled}
 use Rattle.sheet.proofs.Gaps.{zero_or_pos}

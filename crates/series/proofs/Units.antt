@@ -7,9 +7,9 @@ use native.Mathlib.Omega.{arith}
 use lib.Dec.{lit≤}
 use lib.Pow.{pow_pos, pow_mono, pow-add}
 use Rattle.exact.specs.Fraction.{nat, parts, ◌⊕◌, ◌⊗◌, ◌≼◌, ◌≺◌, ◌≈◌}
-use Rattle.exact.specs.Fraction.Order.{≈-trans}
-use Rattle.exact.specs.Fraction.Parts.{parts-≼, parts-pos, parts-⊕, parts-nat, parts-≈}
-use Rattle.exact.specs.Fraction.Units.{parts-⊗_nat}
+use Rattle.exact.proofs.Fraction.Order.{≈-trans}
+use Rattle.exact.proofs.Fraction.Parts.{parts-≼, parts-pos, parts-⊕, parts-nat, parts-≈}
+use Rattle.exact.proofs.Fraction.Units.{parts-⊗_nat}
 use Rattle.sheet.specs.Number.{bias}
 use Rattle.series.proofs.Short.{short, unit}
 

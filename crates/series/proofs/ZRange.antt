@@ -8,11 +8,11 @@ use native.Mathlib.Omega.{arith}
 use lib.Dec.{lit≤}
 use lib.Pow.{pow_mono, pow-add}
 use Rattle.exact.specs.Fraction.{Fraction, nat, parts, negate, leq, ◌⊕◌, ◌⊖◌, ◌⊘◌, ◌≼◌, ◌≺◌}
-use Rattle.exact.specs.Fraction.Order.{≼_refl, ≼_trans, ≺-≼-trans, ≼-by, ≈→≼, ≈-refl, ≈-sym, ≈-trans, ≈-≼-trans, ≼-≈-trans}
-use Rattle.exact.specs.Fraction.Sum.{⊕-mono, ⊖-mono, negate-anti, negate-cong}
-use Rattle.exact.specs.Fraction.Product.{⊗-cong, one-⊗, negate-⊗}
-use Rattle.exact.specs.Fraction.Quotient.{≼-⊘, ⊘-≼}
-use Rattle.exact.specs.Fraction.Parts.{parts-pos, nat-pos}
+use Rattle.exact.proofs.Fraction.Order.{≼_refl, ≼_trans, ≺-≼-trans, ≼-by, ≈→≼, ≈-refl, ≈-sym, ≈-trans, ≈-≼-trans, ≼-≈-trans}
+use Rattle.exact.proofs.Fraction.Sum.{⊕-mono, ⊖-mono, negate-anti, negate-cong}
+use Rattle.exact.proofs.Fraction.Product.{⊗-cong, one-⊗, negate-⊗}
+use Rattle.exact.proofs.Fraction.Quotient.{≼-⊘, ⊘-≼}
+use Rattle.exact.proofs.Fraction.Parts.{parts-pos, nat-pos}
 use Rattle.sheet.specs.Number.{bias, value, Spelled}
 use Rattle.bracket.specs.declared.Bracket.{Bracket}
 use Rattle.bracket.specs.Span.{Ordered, Each, whole, over}

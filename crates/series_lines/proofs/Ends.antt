@@ -7,8 +7,8 @@ use native.Mathlib.Nat.{le_of_lt, le_of_eq, le_trans, mul-le-mul_right}
 use native.Mathlib.Omega.{arith}
 use lib.Pow.{pow_pos, pow_mono, pow-add}
 use Rattle.exact.specs.Fraction.{nat, ◌≼◌}
-use Rattle.exact.specs.Fraction.Order.{≈-refl}
-use Rattle.exact.specs.Fraction.Parts.{parts-nonneg}
+use Rattle.exact.proofs.Fraction.Order.{≈-refl}
+use Rattle.exact.proofs.Fraction.Parts.{parts-nonneg}
 use Rattle.sheet.specs.declared.Sheet.{Sheet}
 use Rattle.sheet.specs.Number.{bias, value}
 use Rattle.sheet.specs.Range.{InRange}

@@ -6,8 +6,8 @@ use native.Mathlib.Omega.{arith}
 use lib.Dec.{lit<, lit≤}
 use lib.Ieee.{size, span, climb}
 use Rattle.exact.specs.Fraction.{nat, parts, ◌⊖◌, ◌≈◌}
-use Rattle.exact.specs.Fraction.Order.{≈-refl, ≈-sym}
-use Rattle.exact.specs.Fraction.Sum.{⊖-cong}
+use Rattle.exact.proofs.Fraction.Order.{≈-refl, ≈-sym}
+use Rattle.exact.proofs.Fraction.Sum.{⊖-cong}
 use Rattle.sheet.specs.declared.Sheet.{Sheet}
 use Rattle.sheet.specs.Magnitude.{round_mag, floor_mag, ceil_mag, lead, next}
 use Rattle.sheet.specs.Number.{bias, value, signed}

@@ -7,8 +7,8 @@ use native.Mathlib.Nat.{mul_comm, mul-sub, mul_assoc, mul-le-mul_right}
 use native.Mathlib.Omega.{arith}
 use lib.Pow.{pow-add}
 use Rattle.exact.specs.Fraction.{nat, parts, ◌⊕◌, ◌⊖◌, ◌⊗◌, ◌⊘◌}
-use Rattle.exact.specs.Fraction.Order.{≈-sym}
-use Rattle.exact.specs.Fraction.Parts.{parts-nat}
+use Rattle.exact.proofs.Fraction.Order.{≈-sym}
+use Rattle.exact.proofs.Fraction.Parts.{parts-nat}
 use Rattle.sheet.specs.declared.Sheet.{Sheet}
 use Rattle.sheet.specs.Magnitude.{round_mag, raise}
 use Rattle.sheet.specs.Number.{bias, value, signed, negate_sheet}

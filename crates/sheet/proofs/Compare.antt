@@ -9,8 +9,8 @@ use borrow.Author.Tests.{le-leb, lt-leb, leb-true, leb-false}
 use lib.Dec.{leb}
 use lib.Pow.{pow_pos}
 use Rattle.exact.specs.Fraction.{parts, leq}
-use Rattle.exact.specs.Fraction.Order.{≼-leq, ≺-leq}
-use Rattle.exact.specs.Fraction.Parts.{parts-≼, parts-≼_below, parts-≼_across, parts-≺, parts-≺_below, parts-≺_across}
+use Rattle.exact.proofs.Fraction.Order.{≼-leq, ≺-leq}
+use Rattle.exact.proofs.Fraction.Parts.{parts-≼, parts-≼_below, parts-≼_across, parts-≺, parts-≺_below, parts-≺_across}
 use Rattle.sheet.specs.declared.Sheet.{Sheet}
 use Rattle.sheet.specs.Magnitude.{Fit}
 use Rattle.sheet.specs.Number.{bias, Spelled}

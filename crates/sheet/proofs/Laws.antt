@@ -10,10 +10,10 @@ use borrow.Author.Tests.{ne_eqb}
 use lib.Dec.{eqb}
 use lib.Pow.{pow_pos, pow-add}
 use Rattle.exact.specs.Fraction.{Fraction, nat, parts, negative, top, bottom, negate, ◌⊗◌, ◌≼◌, ◌≈◌}
-use Rattle.exact.specs.Fraction.Order.{≼_trans, ≼-antisym, ≼-not-≺, ≈→≼, ≈→≽, ≈-refl, ≈-sym, ≈-trans, ≈-≼-trans, ≼-≈-trans}
-use Rattle.exact.specs.Fraction.Sum.{negate-cong}
-use Rattle.exact.specs.Fraction.Product.{⊗-cong}
-use Rattle.exact.specs.Fraction.Parts.{parts-≈, parts-≼_across, ≼-parts-zero, parts-zero, parts-nat, parts-nonneg, parts-negate, parts-⊗, bottom-pos, as_parts, negative-true}
+use Rattle.exact.proofs.Fraction.Order.{≼_trans, ≼-antisym, ≼-not-≺, ≈→≼, ≈→≽, ≈-refl, ≈-sym, ≈-trans, ≈-≼-trans, ≼-≈-trans}
+use Rattle.exact.proofs.Fraction.Sum.{negate-cong}
+use Rattle.exact.proofs.Fraction.Product.{⊗-cong}
+use Rattle.exact.proofs.Fraction.Parts.{parts-≈, parts-≼_across, ≼-parts-zero, parts-zero, parts-nat, parts-nonneg, parts-negate, parts-⊗, bottom-pos, as_parts, negative-true}
 use Rattle.sheet.specs.declared.Sheet.{Sheet}
 use Rattle.sheet.specs.Magnitude.{Magnitude, units, round_mag, Side, raise}
 use Rattle.sheet.specs.Number.{bias, value, plain_zero, signed, negate_sheet, raise_sheet, Normal, Spelled, SheetNumber, nought, number}

@@ -8,12 +8,12 @@ use native.Mathlib.Nat.{mul-pos, mul-le-mul_right, mul-sub, zero-mul, mul_comm}
 use native.Mathlib.Omega.{arith}
 use lib.Pow.{pow-add, pow_pos}
 use Rattle.exact.specs.Fraction.{nat, parts, ◌⊕◌, ◌⊖◌, ◌⊗◌, ◌⊘◌, ◌≼◌, ◌≺◌, ◌≈◌}
-use Rattle.exact.specs.Fraction.Order.{≺-irrefl, ≼-not-≺, ≺-≈-trans, ≈-refl, ≈-sym, ≈-trans}
-use Rattle.exact.specs.Fraction.Sum.{⊕-comm, ⊕-cong, ⊖-is, ⊕-zero, zero_⊕}
-use Rattle.exact.specs.Fraction.Product.{⊗-cong, zero_⊗, ⊗-zero}
-use Rattle.exact.specs.Fraction.Quotient.{⊘-cong, zero_⊘}
-use Rattle.exact.specs.Fraction.Parts.{parts-⊗, parts-⊕, parts-⊕_less, parts-⊘, parts-pos, parts-nonpos, parts-neg, parts-nat, parts-zero}
-use Rattle.exact.specs.Fraction.Units.{≼-units}
+use Rattle.exact.proofs.Fraction.Order.{≺-irrefl, ≼-not-≺, ≺-≈-trans, ≈-refl, ≈-sym, ≈-trans}
+use Rattle.exact.proofs.Fraction.Sum.{⊕-comm, ⊕-cong, ⊖-is, ⊕-zero, zero_⊕}
+use Rattle.exact.proofs.Fraction.Product.{⊗-cong, zero_⊗, ⊗-zero}
+use Rattle.exact.proofs.Fraction.Quotient.{⊘-cong, zero_⊘}
+use Rattle.exact.proofs.Fraction.Parts.{parts-⊗, parts-⊕, parts-⊕_less, parts-⊘, parts-pos, parts-nonpos, parts-neg, parts-nat, parts-zero}
+use Rattle.exact.proofs.Fraction.Units.{≼-units}
 use Rattle.sheet.specs.declared.Sheet.{Sheet}
 use Rattle.sheet.specs.Magnitude.{round_mag}
 use Rattle.sheet.specs.Number.{bias, value, plain_zero, signed, negate_sheet, Spelled}

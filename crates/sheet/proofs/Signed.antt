@@ -9,8 +9,8 @@ use native.Mathlib.Omega.{arith}
 use borrow.Author.Tests.{eq-eqb, ne_eqb, eqb-true}
 use lib.Dec.{eqb}
 use Rattle.exact.specs.Fraction.{Fraction, nat, parts, negative, top, bottom, ◌≼◌, ◌≈◌}
-use Rattle.exact.specs.Fraction.Order.{≼-not-≺, ≈-refl, ≈-sym, ≈-trans, ≈-≼-trans, ≼-≈-trans, ≈-≺-trans, ≺-≈-trans}
-use Rattle.exact.specs.Fraction.Parts.{≈-parts, parts-≼, ≼-parts, parts-≼_below, ≼-parts-below, parts-zero, parts-nonneg, parts-nonpos, parts-pos, parts-neg, bottom-pos, as_parts, negative-true, negative-false}
+use Rattle.exact.proofs.Fraction.Order.{≼-not-≺, ≈-refl, ≈-sym, ≈-trans, ≈-≼-trans, ≼-≈-trans, ≈-≺-trans, ≺-≈-trans}
+use Rattle.exact.proofs.Fraction.Parts.{≈-parts, parts-≼, ≼-parts, parts-≼_below, ≼-parts-below, parts-zero, parts-nonneg, parts-nonpos, parts-pos, parts-neg, bottom-pos, as_parts, negative-true, negative-false}
 use Rattle.sheet.specs.Magnitude.{Magnitude, units, round_mag, Side}
 use Rattle.sheet.specs.Number.{bias, value, signed}
 use Rattle.sheet.specs.Round.{away, round}

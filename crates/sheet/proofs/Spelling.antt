@@ -9,8 +9,8 @@ use borrow.Author.Tests.{eqb-true, eq-eqb}
 use lib.Dec.{eqb}
 use lib.Pow.{pow_pos}
 use Rattle.exact.specs.Fraction.{◌≈◌}
-use Rattle.exact.specs.Fraction.Order.{≼-not-≺, ≈-sym, ≼-≈-trans}
-use Rattle.exact.specs.Fraction.Parts.{≈-parts, parts-neg, parts-nonneg}
+use Rattle.exact.proofs.Fraction.Order.{≼-not-≺, ≈-sym, ≼-≈-trans}
+use Rattle.exact.proofs.Fraction.Parts.{≈-parts, parts-neg, parts-nonneg}
 use Rattle.sheet.specs.declared.Sheet.{Sheet}
 use Rattle.sheet.specs.Magnitude.{Magnitude, Fit}
 use Rattle.sheet.specs.Number.{bias, value, plain_zero, signed, Normal, Spelled}

@@ -7,7 +7,7 @@ use mathlib.Core.List.{List}
 use lib.Dec.{T}
 use lib.Ieee.{Float, fits, binary64}
 use Rattle.exact.specs.Fraction.{◌⊖◌}
-use Rattle.exact.specs.Fraction.Order.{≺→≼, ≺-trans}
+use Rattle.exact.proofs.Fraction.Order.{≺→≼, ≺-trans}
 use Rattle.doubles.specs.Double.{exact_of}
 use Rattle.doubles.specs.Range.{accepted_density}
 use Rattle.equation.specs.Rules.{pressure, stiffness, gibbs_gap, target_gap, pressure_gap}

@@ -4,7 +4,7 @@ use Prim.Native.Nat.{ℕ, suc, ◌≤◌}
 use mathlib.Core.Path.{◌≡◌, refl}
 use mathlib.Core.List.{List}
 use lib.Ieee.{Float}
-use Rattle.exact.specs.Fraction.Order.{≺→≼, ≺-trans}
+use Rattle.exact.proofs.Fraction.Order.{≺→≼, ≺-trans}
 use Rattle.doubles.specs.Double.{exact_of}
 use Rattle.equation.proofs.Covers.{covers_pressure, covers_stiffness, covers_gibbs_gap, covers_target_gap, covers_pressure_gap}
 use Rattle.verdict.specs.Reading.{number}

@@ -5,7 +5,7 @@ use Prim.Native.Nat.{ℕ}
 use native.Mathlib.Omega.{arith}
 use lib.Ieee.{Float, is_nan}
 use Rattle.exact.specs.Fraction.{Fraction, nat, negate, leq, ◌≈◌}
-use Rattle.exact.specs.Fraction.Order.{≈-sym, ≈-≼-trans, ≼-≈-trans}
+use Rattle.exact.proofs.Fraction.Order.{≈-sym, ≈-≼-trans, ≼-≈-trans}
 use Rattle.kind.specs.Kind.{highest}
 use Rattle.sheet.specs.Number.{value}
 use Rattle.sheet.specs.Range.{Doubled}

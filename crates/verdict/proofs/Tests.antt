@@ -8,8 +8,8 @@ use lib.Ieee.{Float}
 use lib.Ieee.Scale.{finite}
 use borrow.Author.Tests.{not-true, not-false}
 use Rattle.exact.specs.Fraction.{Fraction, nat, parts, negate, ◌⊕◌, ◌≼◌, ◌≺◌, leq}
-use Rattle.exact.specs.Fraction.Order.{≼-by, ≼-leq, ≺-leq, leq-true, leq-false, ≺-≼-trans, ≼_trans}
-use Rattle.exact.specs.Fraction.Parts.{nat-≼}
+use Rattle.exact.proofs.Fraction.Order.{≼-by, ≼-leq, ≺-leq, leq-true, leq-false, ≺-≼-trans, ≼_trans}
+use Rattle.exact.proofs.Fraction.Parts.{nat-≼}
 use Rattle.exact.specs.Ends.{Within, absolute}
 use Rattle.exact.proofs.Width.{passes_within, passes_upper, passes_lower, above-width}
 use Rattle.kind.specs.Kind.{coldest, highest}

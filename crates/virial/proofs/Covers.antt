@@ -4,7 +4,7 @@ use native.Mathlib.Omega.{arith}
 use mathlib.Core.Bool.{Bool, true, false, cond}
 use mathlib.Core.List.{List}
 use Rattle.exact.specs.Fraction.{Fraction, nat, ◌⊕◌, ◌⊗◌}
-use Rattle.exact.specs.Fraction.Parts.{nat-pos}
+use Rattle.exact.proofs.Fraction.Parts.{nat-pos}
 use Rattle.exact.specs.Series.{power as power_at}
 use Rattle.term.specs.declared.Term.{Term}
 use Rattle.term.specs.Packed.{term_at, count_terms}

@@ -8,11 +8,11 @@ use mathlib.Core.Path.{◌≡◌, refl}
 use mathlib.Core.Bool.{Bool, true, false, cond}
 use mathlib.Core.List.{List, [], ◌∷◌}
 use Rattle.exact.specs.Fraction.{Fraction, nat, parts, inv, ◌⊕◌, ◌⊖◌, ◌⊗◌, ◌⊘◌, ◌≼◌, ◌≺◌, ◌≈◌}
-use Rattle.exact.specs.Fraction.Order.{≈-refl, ≈-sym, ≈-trans, ≺→≼, ≼-≈-trans}
-use Rattle.exact.specs.Fraction.Sum.{⊕-cong, ⊖-cong}
-use Rattle.exact.specs.Fraction.Product.{⊗-cong, ⊗-nonneg, ⊗-pos}
-use Rattle.exact.specs.Fraction.Quotient.{⊘-is, ⊘-cong, ⊘-nonneg, ⊘-≼, ⊗-⊘, inv-⊗, inv-pos, inv-of_⊗}
-use Rattle.exact.specs.Fraction.Parts.{nat-nonneg, nat-pos, parts-nonneg, parts-pos}
+use Rattle.exact.proofs.Fraction.Order.{≈-refl, ≈-sym, ≈-trans, ≺→≼, ≼-≈-trans}
+use Rattle.exact.proofs.Fraction.Sum.{⊕-cong, ⊖-cong}
+use Rattle.exact.proofs.Fraction.Product.{⊗-cong, ⊗-nonneg, ⊗-pos}
+use Rattle.exact.proofs.Fraction.Quotient.{⊘-is, ⊘-cong, ⊘-nonneg, ⊘-≼, ⊗-⊘, inv-⊗, inv-pos, inv-of_⊗}
+use Rattle.exact.proofs.Fraction.Parts.{nat-nonneg, nat-pos, parts-nonneg, parts-pos}
 use Rattle.exact.specs.Ends.{absolute}
 use Rattle.exact.specs.Series.{power}
 use Rattle.exact.proofs.Power.{power-nonneg}

@@ -4,10 +4,10 @@ use mathlib.Core.Path.{refl}
 use mathlib.Core.Bool.{Bool, true, false}
 use mathlib.Core.List.{[], ◌∷◌}
 use Rattle.exact.specs.Fraction.{Fraction, nat, parts, negate, ◌⊕◌, ◌⊖◌, ◌⊗◌, ◌≼◌, ◌≈◌}
-use Rattle.exact.specs.Fraction.Order.{≼_refl, ≼_trans, ≈-refl, ≈-sym, ≈-trans, ≈-≼-trans, ≼-≈-trans, ≼-resp}
-use Rattle.exact.specs.Fraction.Sum.{⊕-mono, ⊕-mono-left, ⊕-mono-right, ⊕-cong, ⊕-middle, ⊖-mono, ⊖-≼, ≼-⊖, negate-anti, ≼-⊕-right}
-use Rattle.exact.specs.Fraction.Product.{⊗-⊕, ⊗-mono-left, ⊗-mono-right, ⊗-cong, negate-⊗}
-use Rattle.exact.specs.Fraction.Parts.{parts-nonneg, parts-negate}
+use Rattle.exact.proofs.Fraction.Order.{≼_refl, ≼_trans, ≈-refl, ≈-sym, ≈-trans, ≈-≼-trans, ≼-≈-trans, ≼-resp}
+use Rattle.exact.proofs.Fraction.Sum.{⊕-mono, ⊕-mono-left, ⊕-mono-right, ⊕-cong, ⊕-middle, ⊖-mono, ⊖-≼, ≼-⊖, negate-anti, ≼-⊕-right}
+use Rattle.exact.proofs.Fraction.Product.{⊗-⊕, ⊗-mono-left, ⊗-mono-right, ⊗-cong, negate-⊗}
+use Rattle.exact.proofs.Fraction.Parts.{parts-nonneg, parts-negate}
 use Rattle.exact.specs.Ends.{absolute}
 use Rattle.exact.proofs.Ring.{ring, var, minus, ◌:+◌, ◌:-◌, ◌:*◌}
 use Rattle.exact.proofs.Width.{≼-absolute, absolute-≼, ≼-of-absolute}

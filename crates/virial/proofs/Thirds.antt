@@ -8,10 +8,10 @@ use mathlib.Core.List.{[], ◌∷◌}
 use lib.Dec.{eqb}
 use borrow.Author.Tests.{ne_eqb}
 use Rattle.exact.specs.Fraction.{Fraction, nat, ◌⊕◌, ◌⊖◌, ◌⊗◌, ◌≼◌, ◌≈◌}
-use Rattle.exact.specs.Fraction.Order.{≼_refl, ≼_trans, ≈-refl, ≈-sym, ≈-trans, ≈-≼-trans, ≼-≈-trans, ≈→≼}
-use Rattle.exact.specs.Fraction.Sum.{⊕-mono-right, ⊖-cong, ⊖-≼-back, ≼-⊕-right}
-use Rattle.exact.specs.Fraction.Product.{⊗-cong, ⊗-mono-left, ⊗-mono-right, ⊗-nonneg, ⊗-one}
-use Rattle.exact.specs.Fraction.Parts.{nat-≼, nat-nonneg, nat-⊕}
+use Rattle.exact.proofs.Fraction.Order.{≼_refl, ≼_trans, ≈-refl, ≈-sym, ≈-trans, ≈-≼-trans, ≼-≈-trans, ≈→≼}
+use Rattle.exact.proofs.Fraction.Sum.{⊕-mono-right, ⊖-cong, ⊖-≼-back, ≼-⊕-right}
+use Rattle.exact.proofs.Fraction.Product.{⊗-cong, ⊗-mono-left, ⊗-mono-right, ⊗-nonneg, ⊗-one}
+use Rattle.exact.proofs.Fraction.Parts.{nat-≼, nat-nonneg, nat-⊕}
 use Rattle.exact.specs.Series.{power, expneg_at}
 use Rattle.exact.proofs.Power.{power-nonneg, power-add, power-one}
 use Rattle.exact.proofs.Ring.{ring, var, num, ◌:+◌, ◌:-◌, ◌:*◌}

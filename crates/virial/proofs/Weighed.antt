@@ -4,11 +4,11 @@ use native.Mathlib.Omega.{arith}
 use mathlib.Core.Path.{refl}
 use mathlib.Core.List.{[], ◌∷◌}
 use Rattle.exact.specs.Fraction.{Fraction, nat, ◌⊕◌, ◌⊖◌, ◌⊗◌, ◌⊘◌, ◌≼◌, ◌≈◌}
-use Rattle.exact.specs.Fraction.Order.{≼_refl, ≼_trans, ≈-refl, ≈-sym, ≈-trans, ≈-≼-trans, ≼-≈-trans}
-use Rattle.exact.specs.Fraction.Sum.{⊕-cong, ⊕-pos, ⊖-mono, ≼-⊕-right}
-use Rattle.exact.specs.Fraction.Product.{⊗-cong, ⊗-mono-right, ⊗-nonneg}
-use Rattle.exact.specs.Fraction.Quotient.{⊘-⊗, ⊘-one, ≼-⊘, ⊘-≼}
-use Rattle.exact.specs.Fraction.Parts.{nat-pos, nat-nonneg}
+use Rattle.exact.proofs.Fraction.Order.{≼_refl, ≼_trans, ≈-refl, ≈-sym, ≈-trans, ≈-≼-trans, ≼-≈-trans}
+use Rattle.exact.proofs.Fraction.Sum.{⊕-cong, ⊕-pos, ⊖-mono, ≼-⊕-right}
+use Rattle.exact.proofs.Fraction.Product.{⊗-cong, ⊗-mono-right, ⊗-nonneg}
+use Rattle.exact.proofs.Fraction.Quotient.{⊘-⊗, ⊘-one, ≼-⊘, ⊘-≼}
+use Rattle.exact.proofs.Fraction.Parts.{nat-pos, nat-nonneg}
 use Rattle.exact.specs.Series.{partial, exp_term, expneg_at}
 use Rattle.exact.proofs.Ring.{ring, var, num, ◌:+◌, ◌:-◌, ◌:*◌}
 use Rattle.exact.proofs.Series.{exp_term-nonneg, exp_sum-pos, expneg_at-under}

@@ -4,8 +4,8 @@ use native.Mathlib.Omega.{arith}
 use lib.Dec.{T}
 use lib.Ieee.{Float}
 use Rattle.exact.specs.Fraction.{nat, parts}
-use Rattle.exact.specs.Fraction.Order.{≼_refl}
-use Rattle.exact.specs.Fraction.Parts.{nat-≼}
+use Rattle.exact.proofs.Fraction.Order.{≼_refl}
+use Rattle.exact.proofs.Fraction.Parts.{nat-≼}
 use Rattle.kind.specs.Kind.{by_kind, widest}
 use Rattle.doubles.specs.Double.{exact_of}
 use Rattle.doubles.specs.Range.{accepted_temperature, accepted_density}

@@ -1,7 +1,7 @@
 -- `bracket_lines::held` meets its contract: both ends are in range and in order. Assumes nothing.
 use mathlib.Core.Path.{sym, ◌∙◌}
 use mathlib.Core.Bool.{true≢false}
-use Rattle.exact.specs.Fraction.Order.{leq-true}
+use Rattle.exact.proofs.Fraction.Order.{leq-true}
 use Rattle.sheet.proofs.Live.{range_spelled}
 use Rattle.bracket_lines.proofs.held.Goals as goal
 

@@ -1,7 +1,7 @@
 -- `series_lines::taken` meets its contract: both ends are usable and in order. Assumes nothing.
 use mathlib.Core.Path.{sym, ◌∙◌}
 use mathlib.Core.Bool.{true≢false}
-use Rattle.exact.specs.Fraction.Order.{leq-true}
+use Rattle.exact.proofs.Fraction.Order.{leq-true}
 use Rattle.sheet.proofs.Live.{range_spelled}
 use Rattle.series_lines.proofs.taken.Goals as goal
 

@@ -1,7 +1,7 @@
 -- `bracket::picked::end` meets its contract: the end is taken by the side. Assumes nothing.
 use mathlib.Core.Path.{sym, ap}
 use mathlib.Core.Bool.{Bool}
-use Rattle.exact.specs.Fraction.Order.{≼_refl}
+use Rattle.exact.proofs.Fraction.Order.{≼_refl}
 use Rattle.sheet.specs.Number.{value}
 use Rattle.bracket.specs.Span.{side}
 use Rattle.bracket.specs.Rules.{ends}

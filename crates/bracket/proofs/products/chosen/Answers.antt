@@ -3,7 +3,7 @@ use mathlib.Core.Path.{sym, subst}
 use mathlib.Core.Bool.{true, false}
 use Prim.Native.Nat.{ℕ}
 use Rattle.exact.specs.Fraction.{nat, ◌≼◌}
-use Rattle.exact.specs.Fraction.Order.{≼_trans}
+use Rattle.exact.proofs.Fraction.Order.{≼_trans}
 use Rattle.sheet.specs.Number.{value}
 use Rattle.bracket.specs.declared.Bracket.{Bracket}
 use Rattle.bracket.specs.Held.{Held}

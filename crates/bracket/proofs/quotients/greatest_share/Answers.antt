@@ -2,7 +2,7 @@
 use Prim.Native.Nat.{suc}
 use mathlib.Core.Path.{ap, ◌∙◌}
 use Rattle.exact.specs.Fraction.{Fraction, ◌⊘◌}
-use Rattle.exact.specs.Fraction.Order.{≺-≼-trans}
+use Rattle.exact.proofs.Fraction.Order.{≺-≼-trans}
 use Rattle.sheet.specs.Number.{value}
 use Rattle.sheet.specs.Round.{up}
 use Rattle.bracket.proofs.quotients.greatest_share.Goals as goal

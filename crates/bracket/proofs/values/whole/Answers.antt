@@ -2,7 +2,7 @@
 use mathlib.Core.Path.{ap}
 use mathlib.Core.Bool.{false}
 use Rattle.exact.specs.Fraction.{nat}
-use Rattle.exact.specs.Fraction.Order.{≈-trans, ≈-of-≡}
+use Rattle.exact.proofs.Fraction.Order.{≈-trans, ≈-of-≡}
 use Rattle.sheet.specs.Number.{value}
 use Rattle.sheet.proofs.Laws.{round_whole}
 use Rattle.sheet.proofs.Live.{few-digits}

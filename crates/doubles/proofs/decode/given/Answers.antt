@@ -6,7 +6,7 @@ use native.Mathlib.Nat.{mul-one}
 use native.Mathlib.Omega.{arith}
 use lib.Dec.{lit<}
 use lib.Pow.{pow_pos}
-use Rattle.exact.specs.Fraction.Order.{≈-sym}
+use Rattle.exact.proofs.Fraction.Order.{≈-sym}
 use Rattle.sheet.specs.Number.{bias}
 use Rattle.sheet.proofs.Places.{place_whole}
 use Rattle.sheet.proofs.Signed.{round_parts}

@@ -7,7 +7,7 @@ use native.Mathlib.Nat.{zero-mul}
 use lib.Dec.{T}
 use lib.Ieee.{binary64, of_bits, nan_bits}
 use Rattle.exact.specs.Fraction.{nat, parts, ◌≈◌}
-use Rattle.exact.specs.Fraction.Parts.{parts-zero}
+use Rattle.exact.proofs.Fraction.Parts.{parts-zero}
 use Rattle.sheet.specs.Number.{bias}
 use Rattle.doubles.specs.Handed.{double_of}
 use Rattle.doubles.proofs.Handed.{double_of-zero}

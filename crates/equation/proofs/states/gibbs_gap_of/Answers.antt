@@ -1,5 +1,5 @@
 -- `equation::states::gibbs_gap_of` meets its contract. Assumes nothing.
-use Rattle.exact.specs.Fraction.Order.{≼-by}
+use Rattle.exact.proofs.Fraction.Order.{≼-by}
 use Rattle.equation.specs.Rules.{gibbs_gap_of}
 use Rattle.equation.proofs.Steps.{held-is, plus-of, times-of}
 use Rattle.equation.proofs.HoldsStates.{gas_heat-held, ln_ratio-held, sums_apart-held, logarithm_apart_held}

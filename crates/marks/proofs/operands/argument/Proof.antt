@@ -1,6 +1,6 @@
 -- `marks::operands::argument` meets its contract. Assumes nothing.
 use Rattle.std.proofs.Common.{sym, ◌∙◌, rules}
-use Rattle.exact.specs.Fraction.Order.{leq-true}
+use Rattle.exact.proofs.Fraction.Order.{leq-true}
 use Rattle.sheet.specs.Number.{value}
 use Rattle.sheet.proofs.Live.{range_spelled}
 use Rattle.marks.proofs.Arguments.{in_range, between, alone}

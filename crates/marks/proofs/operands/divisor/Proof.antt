@@ -1,7 +1,7 @@
 -- `marks::operands::divisor` meets its contract. Assumes nothing.
 use Rattle.std.proofs.Common.{ℕ, ◌-◌, ◌*◌, ◌%◌, ◌^◌, ◌<◌, false, inr, mul-pos, arith, pow_pos, rules}
 use Rattle.exact.specs.Fraction.{nat, ◌≺◌}
-use Rattle.exact.specs.Fraction.Parts.{parts-pos}
+use Rattle.exact.proofs.Fraction.Parts.{parts-pos}
 use Rattle.sheet.specs.Number.{bias, value}
 use Rattle.sheet.specs.Range.{InRange, Width}
 use Rattle.sheet.proofs.Live.{bias-is, Live, live}

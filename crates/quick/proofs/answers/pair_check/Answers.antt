@@ -2,7 +2,7 @@
 use mathlib.Core.Path.{ap, ◌∙◌}
 use Prim.Native.Nat.{ℕ}
 use native.Mathlib.Omega.{arith}
-use Rattle.exact.specs.Fraction.Order.{≺→≼, ≺-trans}
+use Rattle.exact.proofs.Fraction.Order.{≺→≼, ≺-trans}
 use Rattle.doubles.specs.Double.{exact_of}
 use Rattle.equation.specs.Rules.{pressure}
 use Rattle.verdict.specs.declared.Answer.TheVariants.{Accepted}

@@ -1,5 +1,5 @@
 -- `quick::answers::pair_worked` meets its contract. Assumes nothing.
-use Rattle.exact.specs.Fraction.Order.{≼-leq}
+use Rattle.exact.proofs.Fraction.Order.{≼-leq}
 use Rattle.doubles.proofs.Limits.{temperature_widest, density_widest}
 use Rattle.equation.specs.Rules.{pressure_gap, gibbs_gap}
 use Rattle.verdict.specs.Worked.{phase_of}

@@ -1,6 +1,6 @@
 -- `verdict::pairs::screened` meets its contract. Assumes nothing.
 use mathlib.Core.Path.{sym, ◌∙◌}
-use Rattle.exact.specs.Fraction.Order.{≺→≼, ≺-trans}
+use Rattle.exact.proofs.Fraction.Order.{≺→≼, ≺-trans}
 use Rattle.doubles.specs.Range.{accepted_density, accepted_tolerance}
 use Rattle.verdict.proofs.Order.{on_pass, fails-at}
 use Rattle.verdict.proofs.Tests.{both, holds, passed, failed, above-triple_point, sides, density_finite, tolerance_finite}

@@ -5,8 +5,8 @@ use Rattle.std.proofs.Common.{ap, arith, mul-pos, le-mul_of_pos_right, sub-add_c
 use Rattle.std.proofs.Math.Bool.{xor}
 use Rattle.std.proofs.Math.Nat.{max-eq_right, sub-zero}
 use Rattle.exact.specs.Fraction.{Fraction, nat, parts, negative, top, bottom, negate, ◌⊕◌, ◌⊖◌, ◌⊗◌, inv, ◌⊘◌, ◌≼◌, ◌≺◌, ◌≈◌}
-use Rattle.exact.specs.Fraction.Order.{≈-refl, ≈-trans}
-use Rattle.exact.specs.Fraction.Product.{⊗-cong}
+use Rattle.exact.proofs.Fraction.Order.{≈-refl, ≈-trans}
+use Rattle.exact.proofs.Fraction.Product.{⊗-cong}
 
 -- ---- whole numbers
 pub nat-≼ : {a b : ℕ} → a ≤ b → nat a ≼ nat b

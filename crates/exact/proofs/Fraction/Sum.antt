@@ -4,7 +4,7 @@ use Rattle.std.specs.Prelude.{◌*◌}
 use Rattle.std.proofs.Common.{arith, mul-le-mul_right, mul-lt-mul_of_pos_right, mul-pos}
 use Rattle.std.proofs.Math.Nat.{le_of_mul-le-mul_left, lt_of_mul-lt-mul_left}
 use Rattle.exact.specs.Fraction.{Fraction, nat, negate, ◌⊕◌, ◌⊖◌, ◌≼◌, ◌≺◌, ◌≈◌}
-use Rattle.exact.specs.Fraction.Order.{≼_trans, ≺-≼-trans, ≼-≺-trans, ≼-antisym, ≈→≼, ≈→≽, ≈-refl, ≈-sym, ≈-trans, ≼-resp, ≺-resp}
+use Rattle.exact.proofs.Fraction.Order.{≼_trans, ≺-≼-trans, ≼-≺-trans, ≼-antisym, ≈→≼, ≈→≽, ≈-refl, ≈-sym, ≈-trans, ≼-resp, ≺-resp}
 
 pub ⊕-comm : (x y : Fraction) → x ⊕ y ≈ y ⊕ x
 unfolding ◌⊕◌

@@ -4,8 +4,8 @@ use Rattle.std.specs.Prelude.{ℕ, ◌+◌, ◌*◌, ◌≤◌, ◌<◌, ◌≡�
 use Rattle.std.proofs.Common.{subst, inl, inr, arith, mul-le-mul_right, mul-le-mul_left, mul-lt-mul_of_pos_right}
 use Rattle.std.proofs.Math.Nat.{le_dest}
 use Rattle.exact.specs.Fraction.{Fraction, nat, negate, ◌⊕◌, ◌⊖◌, ◌⊗◌, ◌≼◌, ◌≺◌, ◌≈◌}
-use Rattle.exact.specs.Fraction.Order.{≼_trans, ≼-≺-trans, ≺→≼, ≼-antisym, ≈→≼, ≈→≽, ≈-refl, ≈-sym, ≈-trans, ≼-resp, ≺-resp, ≼-or-≺, ≼-not-≺}
-use Rattle.exact.specs.Fraction.Sum.{⊖-cong, ⊖-⊖-⊖}
+use Rattle.exact.proofs.Fraction.Order.{≼_trans, ≼-≺-trans, ≺→≼, ≼-antisym, ≈→≼, ≈→≽, ≈-refl, ≈-sym, ≈-trans, ≼-resp, ≺-resp, ≼-or-≺, ≼-not-≺}
+use Rattle.exact.proofs.Fraction.Sum.{⊖-cong, ⊖-⊖-⊖}
 
 pub ⊗-comm : (x y : Fraction) → x ⊗ y ≈ y ⊗ x
 unfolding ◌⊗◌

@@ -3,7 +3,7 @@ use Rattle.std.specs.Prelude.{ℕ, ◌+◌, ◌*◌, ◌-◌, ◌≤◌, ◌<◌
 use Rattle.std.proofs.Common.{ap, arith, sub-add_cancel, mul-pos, mul-le-mul_right, mul-lt-mul_of_pos_right, le_of_mul-le-mul_right, lt_of_mul-lt-mul_right}
 use Rattle.std.proofs.Math.Nat.{max-eq_right, sub-zero}
 use Rattle.exact.specs.Fraction.{nat, parts, ◌⊕◌, ◌⊗◌, inv, ◌⊘◌, ◌≼◌, ◌≺◌, ◌≈◌}
-use Rattle.exact.specs.Fraction.Parts.{≼-parts, parts-≺, ≺-parts, parts-≼_below, ≼-parts-below, parts-≺_below, ≺-parts-below}
+use Rattle.exact.proofs.Fraction.Parts.{≼-parts, parts-≺, ≺-parts, parts-≼_below, ≼-parts-below, parts-≺_below, ≺-parts-below}
 
 -- ---- over one bottom
 pub units-⊕ : (s : Bool) (a c b : ℕ) → parts s a b ⊕ parts s c b ≈ parts s (a + c) b

@@ -4,7 +4,7 @@ use Rattle.std.specs.Prelude.{◌≡◌}
 use Rattle.std.proofs.Math.Path.{subst⁻¹}
 use Rattle.std.proofs.Common.{inl, inr}
 use Rattle.exact.specs.Fraction.{Fraction, least, greatest, ◌≼◌, ◌≺◌, ◌≈◌}
-use Rattle.exact.specs.Fraction.Order.{≼_refl, ≼_trans, ≺→≼, ≼-or-≺, ≼-antisym, ≈→≼, ≈→≽, ≼-leq, ≺-leq}
+use Rattle.exact.proofs.Fraction.Order.{≼_refl, ≼_trans, ≺→≼, ≼-or-≺, ≼-antisym, ≈→≼, ≈→≽, ≼-leq, ≺-leq}
 
 -- which of the two
 pub least_first : {x y : Fraction} → x ≼ y → least x y ≡ x

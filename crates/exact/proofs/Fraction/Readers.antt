@@ -3,8 +3,8 @@ use Rattle.std.specs.Prelude.{ℕ, ◌*◌, ◌<◌, ◌≡◌, Bool, true, fals
 use Rattle.std.proofs.Common.{sym, subst, ◌∙◌, inl, inr, arith}
 use Rattle.std.proofs.Math.Nat.{max-eq_right}
 use Rattle.exact.specs.Fraction.{Fraction, nat, parts, negative, top, bottom, negate, ◌≺◌, ◌≈◌}
-use Rattle.exact.specs.Fraction.Order.{≼-or-≺, ≈-sym, ≈-trans, ≈→≼, ≈→≽, ≼_trans, ≼-≺-trans}
-use Rattle.exact.specs.Fraction.Parts.{as_parts, ≈-parts, bottom-pos, ≺-negative, ≼-negative, parts-nonneg, parts-neg}
+use Rattle.exact.proofs.Fraction.Order.{≼-or-≺, ≈-sym, ≈-trans, ≈→≼, ≈→≽, ≼_trans, ≼-≺-trans}
+use Rattle.exact.proofs.Fraction.Parts.{as_parts, ≈-parts, bottom-pos, ≺-negative, ≼-negative, parts-nonneg, parts-neg}
 
 pub top_parts : (s : Bool) (a b : ℕ) → top (parts s a b) ≡ a
 unfolding top parts

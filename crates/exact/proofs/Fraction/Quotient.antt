@@ -2,8 +2,8 @@
 use Rattle.std.specs.Prelude.{ℕ, ◌+◌, ◌*◌, ◌≡◌}
 use Rattle.std.proofs.Common.{ap, arith}
 use Rattle.exact.specs.Fraction.{Fraction, nat, negate, ◌⊕◌, ◌⊗◌, inv, ◌⊘◌, ◌≼◌, ◌≺◌, ◌≈◌}
-use Rattle.exact.specs.Fraction.Order.{≺-≼-trans, ≺→≼, ≼-antisym, ≈→≼, ≈→≽, ≈-refl, ≈-sym, ≈-trans, ≼-≈-trans, ≈-≼-trans}
-use Rattle.exact.specs.Fraction.Product.{⊗-middle, one-⊗, ⊗-cong-left, ⊗-comm, ⊗-assoc, ⊗-one, ⊕-⊗, ⊗-mono-left, ⊗-mono-right, ⊗-mono-left-≺, ⊗-cancel-right, ⊗-cong, ⊗-nonneg, ⊗-pos, negate-⊗, zero_⊗}
+use Rattle.exact.proofs.Fraction.Order.{≺-≼-trans, ≺→≼, ≼-antisym, ≈→≼, ≈→≽, ≈-refl, ≈-sym, ≈-trans, ≼-≈-trans, ≈-≼-trans}
+use Rattle.exact.proofs.Fraction.Product.{⊗-middle, one-⊗, ⊗-cong-left, ⊗-comm, ⊗-assoc, ⊗-one, ⊕-⊗, ⊗-mono-left, ⊗-mono-right, ⊗-mono-left-≺, ⊗-cancel-right, ⊗-cong, ⊗-nonneg, ⊗-pos, negate-⊗, zero_⊗}
 
 -- the divisor as it stands, for y above zero
 inv-d : {y : Fraction} → nat 0 ≺ y → (inv y).d + y.n ≡ y.p
