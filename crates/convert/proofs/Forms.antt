@@ -31,14 +31,14 @@ module _ (term : Term) where
       to : old_form term ≡ true → OldForm term
       to h =
           let p = both _ (leb term.t 24) h in
-          let q = both _ (leb term.d 15) p.0 in
+          let q = both _ _ p.0 in
           let r = both _ (ltb 0 term.d) q.0 in
           let s = both (leb term.c 3) (eqb term.factor (plain_factor term.c)) r.0 in
           record {
             c_most = leb-true term.c 3 s.0;
             factor_plain = eqb-true term.factor (plain_factor term.c) s.1;
             d_above = ltb-true 0 term.d r.1;
-            d_most = leb-true term.d 15 q.1;
+            d_most = leb-true _ _ q.1;
             t_most = leb-true term.t 24 p.1;
           }
 
@@ -48,7 +48,7 @@ module _ (term : Term) where
             le-leb term.c 3 f.c_most,
             eq-eqb term.factor (plain_factor term.c) f.factor_plain,
             lt-ltb 0 term.d f.d_above,
-            le-leb term.d 15 f.d_most,
+            le-leb _ _ f.d_most,
             le-leb term.t 24 f.t_most,
           )
 

@@ -55,7 +55,7 @@ fn deliver_terms(from: u64, to: u64, table: &[u8], out: &mut [u8]) -> Converted
 
 pub fn convert(from: u64, to: u64, table: &[u8], out: &mut [u8]) -> Converted
     ensures says { Says from to table.now out.old out.new result }
-    ensures table_value { table.exit.now ≡ table.entry.now }
+    ensures table_stays { table.exit.now ≡ table.entry.now }
 {
     let checked = term::check_table(from, table);
     match checked {

@@ -26,7 +26,7 @@ pub enum Converted {
 // A table of kind 38 as one of kind 58: each of its terms has a new form, so 22 does not occur.
 pub fn lengthen(table: &[u8], out: &mut [u8]) -> Converted
     ensures says { Says 38 58 table.now out.old out.new result }
-    ensures table_value { table.exit.now ≡ table.entry.now }
+    ensures table_stays { table.exit.now ≡ table.entry.now }
 {
     engine::convert(38, 58, table, out)
 }
@@ -34,7 +34,7 @@ pub fn lengthen(table: &[u8], out: &mut [u8]) -> Converted
 // A table of kind 58 as one of kind 38.
 pub fn shorten(table: &[u8], out: &mut [u8]) -> Converted
     ensures says { Says 58 38 table.now out.old out.new result }
-    ensures table_value { table.exit.now ≡ table.entry.now }
+    ensures table_stays { table.exit.now ≡ table.entry.now }
 {
     engine::convert(58, 38, table, out)
 }

@@ -73,7 +73,7 @@ fn write_state<W: Write>(
     t: f64,
     rho: f64,
 ) -> io::Result<()>
-    requires table_value { sound_table kind table.now ≡ true }
+    requires table_sound { sound_table kind table.now ≡ true }
     requires width { Width v × T (accepted_temperature widest t) × T (accepted_density widest rho) }
 {
     let s = equation::sums_of(v, kind, table, t, rho);
@@ -90,7 +90,7 @@ fn write_pair<W: Write>(
     liquid: f64,
     vapour: f64,
 ) -> io::Result<()>
-    requires table_value { sound_table kind table.now ≡ true }
+    requires table_sound { sound_table kind table.now ≡ true }
     requires width { Width v × T (accepted_temperature widest t) × Pair liquid vapour }
 {
     let l = equation::sums_of(v, kind, table, t, liquid);

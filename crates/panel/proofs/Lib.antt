@@ -4,5 +4,4 @@ pub mod AcceptedCall
 pub mod TypedSettled
 pub mod ConvertedSettled
 pub mod Lengthened
-pub mod LentWalk
 pub mod LentSettled

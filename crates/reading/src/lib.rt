@@ -4,7 +4,7 @@
 mod card;
 mod check;
 mod refusal;
-mod sheet;
+mod state_sheet;
 
 ghost use Rattle.std.specs.Prelude.{◌≡◌};
 ghost use Rattle.verdict.specs.Reading.{AnswerNumbers, SheetNumbers};
@@ -33,11 +33,11 @@ pub fn of_sheet(answer: SheetAnswer) -> [u64; 6]
     requires { SheetNumbers answer }
     ensures { result ≡ sheet_values answer }
 {
-    let pressure = sheet::pressure(answer);
-    let stiffness = sheet::stiffness(answer);
+    let pressure = state_sheet::pressure(answer);
+    let stiffness = state_sheet::stiffness(answer);
     [
-        sheet::number(answer),
-        sheet::place(answer),
+        state_sheet::number(answer),
+        state_sheet::place(answer),
         f64::to_bits(pressure.lower),
         f64::to_bits(pressure.upper),
         f64::to_bits(stiffness.lower),

@@ -44,7 +44,7 @@ fn read_rows(text: &[u8], table: &mut [u8; 576]) -> Checked
 
 pub fn read_text(text: &[u8], out: &mut [u8]) -> ReadAnswer
     ensures read_says { ReadSays text.now out.old out.new result }
-    ensures text_value { text.exit.now ≡ text.entry.now }
+    ensures text_stays { text.exit.now ≡ text.entry.now }
 {
     let mut table = [0u8; 576];
     let found = read_rows(text, &mut table);

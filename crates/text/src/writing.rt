@@ -38,7 +38,7 @@ fn spell_terms(table: &[u8], text: &mut [u8; 1664]) -> Spelled
 
 pub fn write_text(table: &[u8], out: &mut [u8]) -> WriteAnswer
     ensures write_says { WriteSays table.now out.old out.new result }
-    ensures table_value { table.exit.now ≡ table.entry.now }
+    ensures table_stays { table.exit.now ≡ table.entry.now }
 {
     let checked = term::check_table(38, table);
     match checked {

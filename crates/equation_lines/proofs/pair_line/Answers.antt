@@ -9,7 +9,7 @@ at_most-requires g c =
 
 pub write_pair-requires : goal.write_pair-requires
 write_pair-requires g c = record {
-  table_value = c.sound.ensures c.if-sound.true;
+  table_sound = c.sound.ensures c.if-sound.true;
   width = (
     c.digits_of-v.ensures c.if-v-gt0.true,
     passed c.accepts_temperature.ensures c.if-accepts_temperature.true,

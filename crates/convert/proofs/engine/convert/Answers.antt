@@ -10,7 +10,7 @@ deliver_terms-requires c =
     sound-answer a.from a.table.now (answer-sound a.from a.table.now _ e).0
 
 pub returns-in-Length : goal.returns-in-Length
-returns-in-Length c = record { says = (sym c.check_table-checked.ensures.0 ∙ c.in-Length.is, refl); table_value = refl }
+returns-in-Length c = record { says = (sym c.check_table-checked.ensures.0 ∙ c.in-Length.is, refl); table_stays = refl }
 
 pub returns-in-Broken : goal.returns-in-Broken
-returns-in-Broken c = record { says = (sym c.check_table-checked.ensures.0 ∙ c.in-Broken.is, refl); table_value = refl }
+returns-in-Broken c = record { says = (sym c.check_table-checked.ensures.0 ∙ c.in-Broken.is, refl); table_stays = refl }

@@ -9,9 +9,6 @@ use Rattle.sheet.proofs.Live.{one_shl, width_room}
 use Rattle.sheet.proofs.Divisions.{begins, left_over, falls}
 use Rattle.sheet.proofs.given.long_division.Goals as goal
 
-pub overflow_shl-full : goal.overflow_shl-full
-overflow_shl-full c = omega (arith, c.requires.0.high)
-
 pub loop-x-init : goal.loop-x-init
 loop-x-init c = (begins c.args.num c.args.den c.args.from, λ h. absurd (omega arith), λ h. absurd (omega arith), omega arith)
 

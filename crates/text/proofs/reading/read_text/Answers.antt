@@ -13,14 +13,14 @@ pub deliver-requires : goal.deliver-requires
 deliver-requires c = taken-fits (told-bytes c.in-Bytes.is c.read_rows-found.ensures)
 
 pub returns-in-Line : goal.returns-in-Line
-returns-in-Line c = record { read_says = (subst (Checks _ _ _) c.in-Line.is c.read_rows-found.ensures, refl); text_value = refl }
+returns-in-Line c = record { read_says = (subst (Checks _ _ _) c.in-Line.is c.read_rows-found.ensures, refl); text_stays = refl }
 
 pub returns-then-deliver : goal.returns-then-deliver
 returns-then-deliver c =
     let t = told-bytes c.in-Bytes.is c.read_rows-found.ensures in
-    record { read_says = taken-delivered t c.deliver.ensures c.if-deliver.true; text_value = refl }
+    record { read_says = taken-delivered t c.deliver.ensures c.if-deliver.true; text_stays = refl }
 
 pub returns-else-deliver : goal.returns-else-deliver
 returns-else-deliver c =
     let t = told-bytes c.in-Bytes.is c.read_rows-found.ensures in
-    record { read_says = taken-no_room t c.deliver.ensures c.if-deliver.false; text_value = refl }
+    record { read_says = taken-no_room t c.deliver.ensures c.if-deliver.false; text_stays = refl }

@@ -9,7 +9,7 @@ deliver_text-requires c =
     sound-answer 38 _ (answer-sound 38 _ _ e).0
 
 pub returns-in-Length : goal.returns-in-Length
-returns-in-Length c = record { write_says = (sym c.check_table-checked.ensures.0 ∙ c.in-Length.is, refl); table_value = refl }
+returns-in-Length c = record { write_says = (sym c.check_table-checked.ensures.0 ∙ c.in-Length.is, refl); table_stays = refl }
 
 pub returns-in-Broken : goal.returns-in-Broken
-returns-in-Broken c = record { write_says = (sym c.check_table-checked.ensures.0 ∙ c.in-Broken.is, refl); table_value = refl }
+returns-in-Broken c = record { write_says = (sym c.check_table-checked.ensures.0 ∙ c.in-Broken.is, refl); table_stays = refl }
