@@ -1,11 +1,10 @@
 -- A table and the longer one that it is lengthened to give the same sums, and so the same brackets of pressure, stiffness and Gibbs gap, bit
 -- for bit, and the same readings of the equation itself. Assumes nothing.
 use Prim.Native.Nat.{ℕ}
-use mathlib.Core.Path.{◌≡◌, sym, ap, ap₂, ◌∙◌}
+use mathlib.Core.Path.{◌≡◌}
 use mathlib.Core.Bool.{true}
 use mathlib.Core.List.{List}
 use Rattle.exact.specs.Fraction.{Fraction}
-use Rattle.term.specs.Packed.{term_at, count_terms}
 use Rattle.term.specs.Sound.{sound_table}
 use Rattle.convert.specs.Converts.{lengthened}
 use Rattle.convert.proofs.Tables.{lengthened-at, lengthened-count}
