@@ -2,7 +2,7 @@
 use mathlib.Core.Path.{◌≡◌, refl, sym, ap, ◌∙◌}
 use mathlib.Core.Logic.{⊎_elim}
 use mathlib.Core.Bool.{Bool, true, false, not}
-use Prim.Native.Nat.{ℕ, suc, ◌+◌, ◌-◌, ◌*◌, ◌/◌, ◌%◌, ◌^◌, ◌≤◌, ◌<◌}
+use Prim.Native.Nat.{ℕ, min, suc, ◌+◌, ◌-◌, ◌*◌, ◌/◌, ◌%◌, ◌^◌, ◌≤◌, ◌<◌}
 use native.Mathlib.Nat.{mul-pos, mul_assoc, zero-mul, add-zero, mul-lt-mul_of_pos_right, pos_of_ne-zero, div-add-mod', mod-lt, div-le_self, div-eq_of_lt, div-lt_iff_lt-mul, le-div_iff_mul-le, lt_of_mul-lt-mul_right, mul-le-mul_left, mul-le-mul_right}
 use native.Mathlib.Omega.{arith}
 use borrow.Author.Tests.{eqb-true, eqb-false}
@@ -13,19 +13,16 @@ use Rattle.sheet.specs.declared.divide.Outcome.{Outcome}
 use Rattle.sheet.specs.declared.given.Division.{Division}
 use Rattle.sheet.specs.Magnitude.{Place, Cut}
 use Rattle.sheet.specs.Number.{Digits}
-use Rattle.sheet.specs.Steps.{Lesser, Dividing, Divisible, BroughtDown, Quotes}
+use Rattle.sheet.specs.Steps.{Dividing, Divisible, BroughtDown, Quotes}
 use Rattle.sheet.proofs.Gaps.{le_or_lt, zero_or_pos}
 use Rattle.sheet.proofs.Shifts.{pow_part, up_fits, up_full, some_zeros}
 
 -- ---- how many digits at once
 
-lesser_pos : {a b r : ℕ} → Lesser a b r → 0 < a → 0 < b → 0 < r
-lesser_pos {a} {b} {r} l p q = ⊎_elim (λ z. let e : r ≡ a = l.one (omega arith) in omega arith) (λ h. h) (zero_or_pos r)
-
 module _ (den : ℕ) (x : Division) (d : Divisible den x) where
   -- both numbers leave room for a digit
-  pub room-left : {free t : ℕ} → x.rest < den → Lesser (count_leading_zeros 64 x.digits) (count_leading_zeros 64 x.rest) free → Lesser free x.place t → 0 < t
-  room-left h l k = lesser_pos k (lesser_pos l (some_zeros x.digits d.few) (some_zeros x.rest (omega (arith, d.divisor.1)))) d.place
+  pub room-left : x.rest < den → 0 < min (min (count_leading_zeros 64 x.digits) (count_leading_zeros 64 x.rest)) x.place
+  room-left h = omega (arith, some_zeros x.digits d.few, some_zeros x.rest (omega (arith, d.divisor.1)), d.place)
 
   module _ (word : x.rest < 2 ^ 64) (t : ℕ) (f : t ≤ count_leading_zeros 64 x.digits) (g : t ≤ count_leading_zeros 64 x.rest) where
     -- one of the two is not zero

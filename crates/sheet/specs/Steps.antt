@@ -1,5 +1,5 @@
 -- What each step of the rounding promises: it keeps every quotient whose place it is handed. Assumes nothing.
-use Rattle.std.specs.Prelude.{◌≡◌, Bool, true, false, ℕ, suc, ◌+◌, ◌-◌, ◌*◌, ◌/◌, ◌^◌, ◌≤◌, ◌<◌}
+use Rattle.std.specs.Prelude.{◌≡◌, Bool, true, ℕ, suc, ◌+◌, ◌-◌, ◌*◌, ◌/◌, ◌^◌, ◌≤◌, ◌<◌}
 use Rattle.sheet.specs.declared.Sheet.{Sheet}
 use Rattle.sheet.specs.declared.divide.Outcome.{Outcome}
 use Rattle.sheet.specs.declared.given.Division.{Division}
@@ -36,11 +36,6 @@ pub record CutBy (t : ℕ) (x y : Found) : Type 0 where
   pub digits : y.m ≡ x.m / 2 ^ t
   pub place : y.e ≡ x.e + t
   pub keeps : Keeps x y
-
-pub record Lesser (a b r : ℕ) : Type 0 where
-  pub first : r ≤ a
-  pub second : r ≤ b
-  pub one : r < b → r ≡ a
 
 -- where something was cut, the digits are all there, or the place is not above the last, from which it is less than a word away
 pub record Loose (v last : ℕ) (x : Found) : Type 0 where
@@ -84,11 +79,6 @@ pub record Aligned (m e to : ℕ) (y : Found) : Type 0 where
   pub small : y.m ≤ m
   pub digits : y.m ≡ m / 2 ^ (to - e)
   pub found : Place y.m y.sticky to (m * 2 ^ e) 1
-
--- 1 for true, 0 for false
-pub record OneWhere (b : Bool) (r : ℕ) : Type 0 where
-  pub yes : b ≡ true → r ≡ 1
-  pub no : b ≡ false → r ≡ 0
 
 -- the addends of a sum, the greater first
 pub record Addends (v : ℕ) (a b : Sheet) : Type 0 where

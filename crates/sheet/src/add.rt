@@ -5,7 +5,7 @@ ghost use Rattle.exact.specs.Fraction.{◌⊕◌, ◌⊖◌};
 ghost use Rattle.sheet.specs.Number.{value};
 ghost use Rattle.sheet.specs.Round.{round};
 ghost use Rattle.sheet.specs.Range.{InRange};
-ghost use Rattle.sheet.specs.Steps.{Aligned, Addends, OneWhere};
+ghost use Rattle.sheet.specs.Steps.{Aligned, Addends};
 
 use crate::Sheet;
 use crate::order::{negated, not_above};
@@ -57,13 +57,6 @@ fn level(v: u64, up: bool, a: Sheet, b: Sheet) -> Sheet
     rounded(v, up, a.neg, am - bm, false, a.e)
 }
 
-// 1 for true, 0 for false.
-fn one_where(b: bool) -> u64
-    ensures { OneWhere b result }
-{
-    if b { 1 } else { 0 }
-}
-
 // Two numbers of different signs, at different places: the digits of the lower one, one place below those of the higher, are taken away;
 // where something was cut, one more is taken and the rest stays.
 fn taken(v: u64, up: bool, a: Sheet, b: Sheet) -> Sheet
@@ -74,7 +67,7 @@ fn taken(v: u64, up: bool, a: Sheet, b: Sheet) -> Sheet
     let ae = a.e;
     let x = aligned(b.m, b.e, ae - 1);
     let q = x.m;
-    let more = one_where(x.sticky);
+    let more = u64::from(x.sticky);
     topped(v, up, a.neg, am * 2 - q - more, x.sticky, ae - 1)
 }
 

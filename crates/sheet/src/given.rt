@@ -6,7 +6,7 @@ ghost use Rattle.sheet.specs.Range.{Width};
 ghost use Rattle.sheet.specs.Steps.{Divisible, BroughtDown, Divided};
 
 use crate::Sheet;
-use crate::place::{lesser, rounded};
+use crate::place::rounded;
 
 // A long division on its way: the digits found, what is left over, and the place.
 #[derive(Clone, Copy)]
@@ -24,11 +24,8 @@ fn brought_down(x: Division, den: u64) -> Division
     let digits = x.digits;
     let rest = x.rest;
     let place = x.place;
-    let free = lesser(
-        u64::leading_zeros(digits) as u64,
-        u64::leading_zeros(rest) as u64,
-    );
-    let t = lesser(free, place);
+    let free = digits.leading_zeros().min(rest.leading_zeros());
+    let t = u64::from(free).min(place);
     let n = rest << t;
     Division {
         digits: (digits << t) + n / den,

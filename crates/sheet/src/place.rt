@@ -5,7 +5,7 @@ ghost use Rattle.sheet.specs.Magnitude.{finish};
 ghost use Rattle.sheet.specs.Number.{signed, Digits};
 ghost use Rattle.sheet.specs.Round.{away};
 ghost use Rattle.sheet.specs.Range.{Width};
-ghost use Rattle.sheet.specs.Steps.{Keeps, Ready, Movable, Moved, CutBy, Loose, Normalised, Lesser, Carried, Rounds};
+ghost use Rattle.sheet.specs.Steps.{Keeps, Ready, Movable, Moved, CutBy, Loose, Normalised, Carried, Rounds};
 
 use crate::Sheet;
 
@@ -49,12 +49,6 @@ pub fn cut(x: Found, t: u64) -> Found
     moved(x, 0, t)
 }
 
-pub fn lesser(a: u64, b: u64) -> u64
-    ensures { Lesser a b result }
-{
-    if a < b { a } else { b }
-}
-
 // v + 1 digits, or fewer at the last place. The digits go to the top of a word, or as far up as the last place allows, and what then stands
 // below v + 1 of them is cut off; where their place is far below the last, they are only cut.
 pub fn normalised(x: Found, v: u64, last: u64) -> Found
@@ -74,7 +68,7 @@ pub fn normalised(x: Found, v: u64, last: u64) -> Found
     if e + u < last {
         return cut(x, last - e);
     }
-    let s = lesser(u64::leading_zeros(m) as u64, e + u - last);
+    let s = u64::from(m.leading_zeros()).min(e + u - last);
     moved(x, s, u)
 }
 
@@ -172,7 +166,7 @@ pub fn topped(v: u64, up: bool, neg: bool, m: u64, sticky: bool, e: u64) -> Shee
     ensures { Rounds up neg m sticky e (suc v) result }
 {
     let x = Found { m, sticky, e };
-    let y = moved(x, u64::leading_zeros(m) as u64, 63 - v);
+    let y = moved(x, u64::from(m.leading_zeros()), 63 - v);
     ended(v, up, neg, y)
 }
 

@@ -1,15 +1,16 @@
 -- `sheet::add::taken` meets its contract. Assumes nothing.
 use mathlib.Core.Path.{◌≡◌, refl, sym, ◌∙◌, subst}
-use mathlib.Core.Bool.{Bool, true, false}
+use mathlib.Core.Bool.{Bool, true, false, false≢true}
 use Prim.Native.Nat.{ℕ, ◌+◌, ◌-◌, ◌*◌, ◌^◌, ◌≤◌, ◌<◌}
 use native.Mathlib.Nat.{sub-zero}
 use native.Mathlib.Omega.{arith}
 use lib.Pow.{pow_pos}
+use Rattle.std.specs.Int.{from_bool}
 use Rattle.sheet.specs.declared.Sheet.{Sheet}
 use Rattle.sheet.specs.declared.place.Found.{Found}
 use Rattle.sheet.specs.Magnitude.{Place}
 use Rattle.sheet.specs.Range.{extent}
-use Rattle.sheet.specs.Steps.{Addends, Aligned, OneWhere}
+use Rattle.sheet.specs.Steps.{Addends, Aligned}
 use Rattle.sheet.proofs.Addends.{pair, double, short}
 use Rattle.sheet.proofs.Sums.{place_take, place_take_rest}
 use Rattle.sheet.proofs.Operations.{sum_less}
@@ -45,30 +46,29 @@ module _ (v : ℕ) (a b : Sheet) (x : Found) (h : Addends v a b) (l : b.e < a.e)
   order = rw twice h.order
 
   -- one more is taken where something was cut
-  left : (s : Bool) (k : ℕ) → x.sticky ≡ s → OneWhere s k → Place (a.m * 2 - x.m - k) s (a.e - 1) (extent a - extent b) 1
-  left true k t o =
-      rw (o.yes refl)
-      (subst (λ (n : ℕ). Place (a.m * 2 - x.m - 1) true (a.e - 1) (n - extent b) 1) twice
-      (place_take_rest (a.m * 2) x.m (a.e - 1) (extent b) order (subst (λ (s : Bool). Place x.m s (a.e - 1) (extent b) 1) t y.found)))
-  left false k t o =
-      rw (o.no refl, sub-zero)
+  left : (s : Bool) → x.sticky ≡ s → Place (a.m * 2 - x.m - from_bool s) s (a.e - 1) (extent a - extent b) 1
+  left true t =
+      subst (λ (n : ℕ). Place (a.m * 2 - x.m - 1) true (a.e - 1) (n - extent b) 1) twice
+      (place_take_rest (a.m * 2) x.m (a.e - 1) (extent b) order (subst (λ (s : Bool). Place x.m s (a.e - 1) (extent b) 1) t y.found))
+  left false t =
+      rw sub-zero
       (subst (λ (n : ℕ). Place (a.m * 2 - x.m) false (a.e - 1) (n - extent b) 1) twice
       (place_take (a.m * 2) x.m (a.e - 1) (extent b) order (subst (λ (s : Bool). Place x.m s (a.e - 1) (extent b) 1) t y.found)))
 
 -- no more than one
-at_most_one : (s : Bool) (k : ℕ) → OneWhere s k → k ≤ 1
-at_most_one true k o = let e = o.yes refl in omega arith
-at_most_one false k o = let e = o.no refl in omega arith
+at_most_one : (s : Bool) → from_bool s ≤ 1
+at_most_one true = omega arith
+at_most_one false = omega arith
 
--- and something is left
-some_left : (v : ℕ) (s : Bool) (d k : ℕ) → OneWhere s k → 0 < d → (s ≡ true → 2 ^ v ≤ d - 1) → 0 < d - k
-some_left v true d k o p f = let e = o.yes refl in omega (arith, f refl, pow_pos v)
-some_left v false d k o p f = let e = o.no refl in omega arith
+-- the digits that are left are all there where something was cut, and else there are some
+some_left : (v : ℕ) (s : Bool) (d : ℕ) → 0 < d → (s ≡ true → 2 ^ v ≤ d - 1) → (s ≡ true → 2 ^ v ≤ d - from_bool s) × (0 < d - from_bool s)
+some_left v true d p f = (f, omega (arith, f refl, pow_pos v))
+some_left v false d p f = (λ t. absurd (false≢true t), omega arith)
 
 pub aligned-x-requires : goal.aligned-x-requires
 aligned-x-requires c = (c.requires.0.some, omega (arith, c.requires.2))
 
-at : (c : goal.After-one_where-more) → Ranges c.args.v c.args.a c.aligned-x.result
+at : (c : goal.After-from-more) → Ranges c.args.v c.args.a c.aligned-x.result
 at c =
     ranges c.args.v c.args.a c.args.b c.aligned-x.result c.requires.0 c.requires.2 c.aligned-x.ensures
 
@@ -79,23 +79,18 @@ pub overflow_sub-am : goal.overflow_sub-am
 overflow_sub-am c = omega (arith, (at c).below)
 
 pub overflow_sub-am-2 : goal.overflow_sub-am-2
-overflow_sub-am-2 c = omega (arith, (at c).below, at_most_one _ _ c.one_where-more.ensures)
+overflow_sub-am-2 c = omega (arith, (at c).below, c.from-more.ensures, at_most_one c.aligned-x.result.sticky)
 
 pub topped-requires : goal.topped-requires
 topped-requires c =
     let r = at c in
-    let o = c.one_where-more.ensures in (
-      c.requires.0.first.width,
-      record { full = λ t _. let k = o.yes t in omega (arith, r.full t); room = omega (arith, r.high) },
-      some_left c.args.v c.aligned-x.result.sticky (c.args.a.m * 2 - c.aligned-x.result.m) _ o (omega (arith, r.below)) r.full,
-      omega (arith, r.low),
-    )
+    let l = rw (sym c.from-more.ensures) at (some_left c.args.v c.aligned-x.result.sticky (c.args.a.m * 2 - c.aligned-x.result.m) (omega (arith, r.below)) r.full) in
+    (c.requires.0.first.width, record { full = λ t _. l.0 t; room = omega (arith, r.high) }, l.1, omega (arith, r.low))
 
 pub returns : goal.returns
 returns c =
     let k = c.args in
     let h = c.requires in
     let x = c.aligned-x in
-    c.topped.ensures (extent k.a - extent k.b) 1
-    (left k.v k.a k.b x.result h.0 h.2 x.ensures x.result.sticky c.one_where-more.result refl c.one_where-more.ensures)
+    c.topped.ensures (extent k.a - extent k.b) 1 (rw c.from-more.ensures (left k.v k.a k.b x.result h.0 h.2 x.ensures x.result.sticky refl))
     ∙ sym (sum_less k.up k.v k.a k.b h.1 h.0.order)

@@ -1,37 +1,33 @@
 -- `sheet::given::brought_down` meets its contract. Assumes nothing.
-use Prim.Native.Nat.{◌*◌, ◌^◌, ◌≤◌, ◌<◌}
+use mathlib.Core.Path.{◌≡◌, sym, subst}
+use Prim.Native.Nat.{ℕ, min, ◌*◌, ◌^◌, ◌≤◌, ◌<◌}
 use native.Mathlib.Nat.{mod-eq_of_lt}
 use native.Mathlib.Omega.{arith}
-use lib.Count.{count_leading_zeros, leading_le}
+use lib.Count.{count_leading_zeros}
 use Rattle.sheet.proofs.Divisions.{room-left, within_word, rest_fits, digits-fit, sum_fits, bring}
 use Rattle.sheet.proofs.given.brought_down.Goals as goal
 
-pub overflow_cast-digits : goal.overflow_cast-digits
-overflow_cast-digits c = omega (arith, leading_le 64 c.args.x.digits)
-
-pub overflow_cast-rest : goal.overflow_cast-rest
-overflow_cast-rest c = omega (arith, leading_le 64 c.args.x.rest)
-
 -- how far both numbers may go up
-record Room (c : goal.After-lesser-t) : Type 0 where
-  below : c.lesser-t.result ≤ c.args.x.place
-  digits : c.lesser-t.result ≤ count_leading_zeros 64 c.args.x.digits
-  rest : c.lesser-t.result ≤ count_leading_zeros 64 c.args.x.rest
+record Room (c : goal.After-min-t) : Type 0 where
+  below : c.min-t.result ≤ c.args.x.place
+  digits : c.min-t.result ≤ count_leading_zeros 64 c.args.x.digits
+  rest : c.min-t.result ≤ count_leading_zeros 64 c.args.x.rest
 
-room : (c : goal.After-lesser-t) → Room c
-room c =
-    let l = c.lesser-free.ensures in
-    let k = c.lesser-t.ensures in
-    record { below = omega (arith, k.second); digits = omega (arith, l.first, k.first); rest = omega (arith, l.second, k.first) }
+-- the least of three
+least : (c : goal.After-min-t) → c.min-t.result ≡ min (min (count_leading_zeros 64 c.args.x.digits) (count_leading_zeros 64 c.args.x.rest)) c.args.x.place
+least c = omega (arith, c.min-free.ensures, c.from.ensures, c.min-t.ensures)
+
+room : (c : goal.After-min-t) → Room c
+room c = let l = least c in record { below = omega arith; digits = omega arith; rest = omega arith }
 
 -- the two numbers as the shifts leave them
-rest-in-word : (c : goal.After-lesser-t) → c.args.x.rest * 2 ^ c.lesser-t.result < 2 ^ 64
+rest-in-word : (c : goal.After-min-t) → c.args.x.rest * 2 ^ c.min-t.result < 2 ^ 64
 rest-in-word c = rest_fits c.args.den c.args.x c.requires (omega arith) _ (room c).digits (room c).rest
 
-digits-in-word : (c : goal.After-lesser-t) → c.args.x.digits * 2 ^ c.lesser-t.result < 2 ^ 64
+digits-in-word : (c : goal.After-min-t) → c.args.x.digits * 2 ^ c.min-t.result < 2 ^ 64
 digits-in-word c = digits-fit c.args.den c.args.x c.requires (omega arith) _ (room c).digits (room c).rest
 
-few : (c : goal.After-lesser-t) → c.lesser-t.result < 64
+few : (c : goal.After-min-t) → c.min-t.result < 64
 few c = within_word c.args.den c.args.x c.requires (omega arith) _ (room c).digits (room c).rest
 
 pub overflow_shl-n : goal.overflow_shl-n
@@ -49,4 +45,4 @@ returns c =
     let den = c.args.den in
     let x = c.args.x in
     rw (mod-eq_of_lt (digits-in-word c), mod-eq_of_lt (rest-in-word c))
-    (bring den _ x c.requires.divisor.0 (λ h. room-left den x c.requires h c.lesser-free.ensures c.lesser-t.ensures) (room c).below)
+    (bring den _ x c.requires.divisor.0 (λ h. subst (λ (t : ℕ). 0 < t) (sym (least c)) (room-left den x c.requires h)) (room c).below)

@@ -1,7 +1,6 @@
 -- `sheet::place::normalised` meets its contract. Assumes nothing.
 use native.Mathlib.Nat.{pos_of_ne-zero}
 use native.Mathlib.Omega.{arith}
-use lib.Count.{leading_le}
 use Rattle.sheet.proofs.Normalising.{none, far, movable, at_top}
 use Rattle.sheet.proofs.place.normalised.Goals as goal
 
@@ -13,18 +12,13 @@ returns-then-e-u c =
     let k = c.args in
     far k.v k.last k.x c.requires _ (omega (arith, c.requires.few)) (omega arith) c.cut.result c.if-e-u.true c.cut.ensures
 
-pub overflow_cast-m : goal.overflow_cast-m
-overflow_cast-m c = omega (arith, leading_le 64 c.args.x.m)
-
 pub moved-requires : goal.moved-requires
 moved-requires c =
     let k = c.args in
-    let l = c.lesser-s.ensures in
-    movable k.v k.last k.x c.requires _ (omega (arith, c.requires.few)) (omega arith) _ (pos_of_ne-zero c.if-m-eq0.false) l.first (omega (arith, l.second, c.if-e-u.false))
+    movable k.v k.last k.x c.requires _ (omega (arith, c.requires.few)) (omega arith) _ (pos_of_ne-zero c.if-m-eq0.false) (omega (arith, c.min-s.ensures, c.from.ensures)) (omega (arith, c.min-s.ensures, c.if-e-u.false))
 
 pub returns : goal.returns
 returns c =
     let k = c.args in
-    let l = c.lesser-s.ensures in
-    at_top k.v k.last k.x c.requires _ (omega (arith, c.requires.few)) (omega arith) _ (pos_of_ne-zero c.if-m-eq0.false) l.first (omega (arith, l.second, c.if-e-u.false)) c.moved.result
-    (λ h. l.one (omega arith)) c.moved.ensures
+    at_top k.v k.last k.x c.requires _ (omega (arith, c.requires.few)) (omega arith) _ (pos_of_ne-zero c.if-m-eq0.false) (omega (arith, c.min-s.ensures, c.from.ensures)) (omega (arith, c.min-s.ensures, c.if-e-u.false)) c.moved.result
+    (λ h. omega (arith, c.min-s.ensures, c.from.ensures)) c.moved.ensures
