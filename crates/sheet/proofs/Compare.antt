@@ -3,10 +3,10 @@ use mathlib.Core.Path.{◌≡◌, refl, sym, ap, ◌∙◌}
 use mathlib.Core.Logic.{⊎_elim}
 use mathlib.Core.Bool.{Bool, true, false, true≢false}
 use Prim.Native.Nat.{ℕ, suc, ◌*◌, ◌^◌, ◌≤◌, ◌<◌}
-use native.Mathlib.Nat.{mul-le-mul_right, mul-le-mul_left, mul-lt-mul_of_pos_right, mul-pos, pos_of_ne-zero, pow-succ'}
+use native.Mathlib.Nat.{le_of_lt, mul-le-mul_right, mul-le-mul_left, mul-lt-mul_of_pos_right, mul-pos, pos_of_ne-zero, pow-succ'}
 use native.Mathlib.Omega.{arith}
-use borrow.Author.Tests.{le-leb, lt-leb, leb-true, leb-false}
-use lib.Dec.{leb}
+use borrow.Author.Tests.{le-leb, lt-leb, leb-true, leb-false, ltb-true, ltb-false}
+use lib.Dec.{leb, ltb}
 use lib.Pow.{pow_pos}
 use Rattle.exact.specs.Fraction.{parts, leq}
 use Rattle.exact.proofs.Fraction.Order.{≼-leq, ≺-leq}
@@ -30,6 +30,14 @@ lower-place v am ae bm be s f h =
 
 pub place_order : (v am ae bm be : ℕ) → am < 2 ^ suc v → Fit v bm be → bm * 2 ^ be ≤ am * 2 ^ ae → be ≤ ae
 place_order v am ae bm be s f h = ⊎_elim (λ l. l) (λ l. absurd (let t = lower-place v am ae bm be s f l in omega arith)) (le_or_lt be ae)
+
+-- different places decide
+pub by_place : (v am ae bm be : ℕ) → Fit v am ae → Fit v bm be → (ae ≡ be → ⊥) → ltb ae be ≡ leb (am * 2 ^ ae) (bm * 2 ^ be)
+by_place v am ae bm be f g n = go (ltb ae be) refl
+  where
+    go : (b : Bool) → ltb ae be ≡ b → b ≡ leb (am * 2 ^ ae) (bm * 2 ^ be)
+    go true t = sym (le-leb (am * 2 ^ ae) (bm * 2 ^ be) (le_of_lt (lower-place v am ae bm be f.small g (ltb-true ae be t))))
+    go false t = sym (lt-leb (am * 2 ^ ae) (bm * 2 ^ be) (lower-place v bm be am ae g.small f (let l = ltb-false ae be t in omega arith)))
 
 pub same_place : (am bm e : ℕ) → leb am bm ≡ leb (am * 2 ^ e) (bm * 2 ^ e)
 same_place am bm e = go (leb am bm) refl

@@ -40,11 +40,8 @@ fn added(v: u64, up: bool, a: Sheet, b: Sheet) -> Sheet
     requires { Addends v a b × (a.neg ≡ b.neg) }
     ensures { result ≡ round up (suc v) (value a ⊕ value b) }
 {
-    let am = a.m;
-    let ae = a.e;
-    let x = aligned(b.m, b.e, ae);
-    let q = x.m;
-    trimmed(v, up, a.neg, am + q, x.sticky, ae)
+    let x = aligned(b.m, b.e, a.e);
+    trimmed(v, up, a.neg, a.m + x.m, x.sticky, a.e)
 }
 
 // Two numbers of different signs, at one place: nothing is cut.
@@ -52,9 +49,7 @@ fn level(v: u64, up: bool, a: Sheet, b: Sheet) -> Sheet
     requires { Addends v a b × (b.neg ≡ not a.neg) × (a.e ≡ b.e) }
     ensures { result ≡ round up (suc v) (value a ⊕ value b) }
 {
-    let am = a.m;
-    let bm = b.m;
-    rounded(v, up, a.neg, am - bm, false, a.e)
+    rounded(v, up, a.neg, a.m - b.m, false, a.e)
 }
 
 // Two numbers of different signs, at different places: the digits of the lower one, one place below those of the higher, are taken away;
@@ -63,12 +58,9 @@ fn taken(v: u64, up: bool, a: Sheet, b: Sheet) -> Sheet
     requires { Addends v a b × (b.neg ≡ not a.neg) × (b.e < a.e) }
     ensures { result ≡ round up (suc v) (value a ⊕ value b) }
 {
-    let am = a.m;
-    let ae = a.e;
-    let x = aligned(b.m, b.e, ae - 1);
-    let q = x.m;
+    let x = aligned(b.m, b.e, a.e - 1);
     let more = u64::from(x.sticky);
-    topped(v, up, a.neg, am * 2 - q - more, x.sticky, ae - 1)
+    topped(v, up, a.neg, a.m * 2 - x.m - more, x.sticky, a.e - 1)
 }
 
 // The greater magnitude comes first.
@@ -77,14 +69,12 @@ fn ordered(v: u64, up: bool, a: Sheet, b: Sheet) -> Sheet
     ensures { result ≡ round up (suc v) (value a ⊕ value b) }
 {
     if a.neg == b.neg {
-        return added(v, up, a, b);
+        added(v, up, a, b)
+    } else if a.e == b.e {
+        level(v, up, a, b)
+    } else {
+        taken(v, up, a, b)
     }
-    let ae = a.e;
-    let be = b.e;
-    if ae == be {
-        return level(v, up, a, b);
-    }
-    taken(v, up, a, b)
 }
 
 // The sum of two numbers by their parts: a number that is handed over whole is copied two words at a time, and waits until both are stored.

@@ -33,10 +33,9 @@ fn eleven_more(x: Outcome, den: u64) -> Outcome
     requires { (x.digits < 2 ^ 52) × (x.rest < den) × (den < 2 ^ 53) }
     ensures { Quotes ((x.digits * den + x.rest) * 2048) den result }
 {
-    let digits = x.digits;
     let n = x.rest * 2048;
     Outcome {
-        digits: digits * 2048 + n / den,
+        digits: x.digits * 2048 + n / den,
         rest: n % den,
     }
 }
@@ -47,10 +46,8 @@ fn long(am: u64, bm: u64) -> Outcome
     ensures { Quotes (am * 2 ^ 53) bm result }
 {
     let mut x = parted(am * 512, bm);
-    let mut k: u64 = 0;
-    while k < 4 {
+    for _ in 0_u64..4 {
         x = eleven_more(x, bm);
-        k += 1;
     }
     x
 }
@@ -71,15 +68,11 @@ pub fn quotient(v: u64, up: bool, a: Sheet, b: Sheet) -> Sheet
     requires { (InRange v a × InRange v b) × (nat 0 ≺ value b) }
     ensures { result ≡ round up (suc v) (value a ⊘ value b) }
 {
-    let am = a.m;
-    let ae = a.e;
-    let be = b.e;
-    if am == 0 {
+    if a.m == 0 {
         return Sheet::ZERO;
     }
-    let x = shared(v, am, b.m);
-    let rest = x.rest;
-    trimmed(v, up, a.neg, x.digits, rest != 0, ae + 262143 - v - be)
+    let x = shared(v, a.m, b.m);
+    trimmed(v, up, a.neg, x.digits, x.rest != 0, a.e + 262143 - v - b.e)
 }
 
 // By a step's count: from the top of a word one division finds all digits at either width.
@@ -87,13 +80,10 @@ pub fn share(v: u64, up: bool, a: Sheet, n: u64) -> Sheet
     requires { InRange v a × (0 < n) × (n ≤ 2048) }
     ensures { result ≡ round up (suc v) (value a ⊘ nat n) }
 {
-    let am = a.m;
-    let ae = a.e;
-    if am == 0 {
+    if a.m == 0 {
         return Sheet::ZERO;
     }
     let u = 63 - v;
-    let x = parted(am << u, n);
-    let rest = x.rest;
-    topped(v, up, a.neg, x.digits, rest != 0, ae - u)
+    let x = parted(a.m << u, n);
+    topped(v, up, a.neg, x.digits, x.rest != 0, a.e - u)
 }

@@ -11,6 +11,5 @@ pub fn onward(v: u64, s: Sheet, n: u64) -> Sheet
     requires { InRange v s × (n ≤ 2 ^ v) }
     ensures { result ≡ onward (suc v) n s }
 {
-    let m = s.m;
-    carried(v, s.neg, m + n, s.e)
+    carried(v, s.neg, s.m + n, s.e)
 }

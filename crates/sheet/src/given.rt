@@ -21,16 +21,13 @@ fn brought_down(x: Division, den: u64) -> Division
     requires { Divisible den x }
     ensures { BroughtDown den x result }
 {
-    let digits = x.digits;
-    let rest = x.rest;
-    let place = x.place;
-    let free = digits.leading_zeros().min(rest.leading_zeros());
-    let t = u64::from(free).min(place);
-    let n = rest << t;
+    let free = x.digits.leading_zeros().min(x.rest.leading_zeros());
+    let t = u64::from(free).min(x.place);
+    let n = x.rest << t;
     Division {
-        digits: (digits << t) + n / den,
+        digits: (x.digits << t) + n / den,
         rest: n % den,
-        place: place - t,
+        place: x.place - t,
     }
 }
 
@@ -45,11 +42,7 @@ fn long_division(v: u64, num: u64, den: u64, from: u64) -> Division
         rest: num,
         place: from,
     };
-    while x.digits < full {
-        let place = x.place;
-        if place == 0 {
-            return x;
-        }
+    while x.digits < full && x.place != 0 {
         x = brought_down(x, den);
     }
     x
@@ -74,10 +67,10 @@ pub fn ratio(v: u64, neg: bool, num: u64, den: u64) -> Roundings
         };
     }
     let x = long_division(v, num, den, 262144);
-    let rest = x.rest;
-    let down = rounded(v, false, neg, x.digits, rest != 0, x.place);
-    let up = rounded(v, true, neg, x.digits, rest != 0, x.place);
-    Roundings { down, up }
+    Roundings {
+        down: rounded(v, false, neg, x.digits, x.rest != 0, x.place),
+        up: rounded(v, true, neg, x.digits, x.rest != 0, x.place),
+    }
 }
 
 // A whole number of at most 32 digits is exact, so that one direction serves for both.

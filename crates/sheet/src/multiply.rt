@@ -59,11 +59,9 @@ pub fn product(v: u64, up: bool, a: Sheet, b: Sheet) -> Sheet
     ensures { result ≡ round up (suc v) (value a ⊗ value b) }
 {
     let x = multiplied(v, a.m, b.m);
-    let m = x.m;
-    let ae = a.e;
-    let be = b.e;
-    if m == 0 {
-        return Sheet::ZERO;
+    if x.m == 0 {
+        Sheet::ZERO
+    } else {
+        trimmed(v, up, a.neg != b.neg, x.m, x.sticky, a.e + b.e + v - 262144)
     }
-    trimmed(v, up, a.neg != b.neg, m, x.sticky, ae + be + v - 262144)
 }

@@ -12,29 +12,20 @@ pub fn not_above(am: u64, ae: u64, bm: u64, be: u64) -> bool
     requires { BothFit am ae bm be }
     ensures { result ≡ leb (am * 2 ^ ae) (bm * 2 ^ be) }
 {
-    if ae < be {
-        return true;
-    }
-    if be < ae {
-        return false;
-    }
-    am <= bm
+    if ae == be { am <= bm } else { ae < be }
 }
 
 pub fn at_most(a: Sheet, b: Sheet) -> bool
     requires { BothSpelled a b }
     ensures { result ≡ leq (value a) (value b) }
 {
-    if a.neg {
-        if b.neg {
-            return not_above(b.m, b.e, a.m, a.e);
-        }
-        return true;
+    if a.neg != b.neg {
+        a.neg
+    } else if a.neg {
+        not_above(b.m, b.e, a.m, a.e)
+    } else {
+        not_above(a.m, a.e, b.m, b.e)
     }
-    if b.neg {
-        return false;
-    }
-    not_above(a.m, a.e, b.m, b.e)
 }
 
 pub fn negated(a: Sheet) -> Sheet

@@ -22,22 +22,12 @@ fn moved(x: Found, s: u64, u: u64) -> Found
     requires { Movable s u x }
     ensures { Moved s u x result }
 {
-    let m = x.m;
-    let e = x.e;
-    let n = m << s;
-    let q = n >> u;
-    if q << u == n {
-        Found {
-            m: q,
-            sticky: x.sticky,
-            e: e + u - s,
-        }
-    } else {
-        Found {
-            m: q,
-            sticky: true,
-            e: e + u - s,
-        }
+    let n = x.m << s;
+    let m = n >> u;
+    Found {
+        m,
+        sticky: m << u != n || x.sticky,
+        e: x.e + u - s,
     }
 }
 
@@ -55,21 +45,15 @@ pub fn normalised(x: Found, v: u64, last: u64) -> Found
     requires { Loose v last x }
     ensures { Normalised v last x result }
 {
-    let m = x.m;
-    let e = x.e;
-    if m == 0 {
-        return Found {
-            m,
-            sticky: x.sticky,
-            e: last,
-        };
-    }
     let u = 63 - v;
-    if e + u < last {
-        return cut(x, last - e);
+    if x.m == 0 {
+        Found { e: last, ..x }
+    } else if x.e + u < last {
+        cut(x, last - x.e)
+    } else {
+        let s = u64::from(x.m.leading_zeros()).min(x.e + u - last);
+        moved(x, s, u)
     }
-    let s = u64::from(m.leading_zeros()).min(e + u - last);
-    moved(x, s, u)
 }
 
 // Digits that may have gone past v + 1: past the greatest of them comes the least, one place up.
@@ -107,10 +91,10 @@ fn next(v: u64, neg: bool, m: u64, e: u64) -> Sheet
 pub fn signed(neg: bool, m: u64, e: u64) -> Sheet
     ensures { result ≡ signed neg (record { m = m; e = e }) }
 {
-    if m == 0 {
-        Sheet { neg: false, m, e }
-    } else {
-        Sheet { neg, m, e }
+    Sheet {
+        neg: neg && m != 0,
+        m,
+        e,
     }
 }
 
@@ -119,20 +103,11 @@ fn finished(v: u64, up: bool, neg: bool, x: Found) -> Sheet
     requires { Width v × (x.m < 2 ^ suc v) × (x.e < 2 ^ 63) }
     ensures { result ≡ signed neg (finish (away up neg) x.sticky (suc v) (record { m = x.m; e = x.e })) }
 {
-    let m = x.m;
-    let e = x.e;
-    if x.sticky {
-        if up {
-            if neg {
-                return signed(neg, m, e);
-            }
-            return next(v, neg, m, e);
-        }
-        if neg {
-            return next(v, neg, m, e);
-        }
+    if x.sticky && up != neg {
+        next(v, neg, x.m, x.e)
+    } else {
+        signed(neg, x.m, x.e)
     }
-    signed(neg, m, e)
 }
 
 // The same where no digit is missing, so that there is no zero to look for.
@@ -140,14 +115,15 @@ fn ended(v: u64, up: bool, neg: bool, x: Found) -> Sheet
     requires { Width v × Digits v x.m × (x.e < 2 ^ 63) }
     ensures { result ≡ signed neg (finish (away up neg) x.sticky (suc v) (record { m = x.m; e = x.e })) }
 {
-    let m = x.m;
-    let e = x.e;
-    if up != neg {
-        if x.sticky {
-            return next(v, neg, m, e);
+    if up != neg && x.sticky {
+        next(v, neg, x.m, x.e)
+    } else {
+        Sheet {
+            neg,
+            m: x.m,
+            e: x.e,
         }
     }
-    Sheet { neg, m, e }
 }
 
 // Digits at a place, with word of what was cut below, rounded to v + 1 bits.
@@ -175,9 +151,8 @@ fn fitted(v: u64, x: Found) -> Found
     requires { Width v × (2 ^ v ≤ x.m) × (x.m < 2 ^ suc (suc v)) × (x.e ≤ 2 ^ 62) }
     ensures { Digits v result.m × (result.e ≤ x.e + 1) × Keeps x result }
 {
-    let m = x.m;
     let full = 1 << (v + 1);
-    if m < full { x } else { cut(x, 1) }
+    if x.m < full { x } else { cut(x, 1) }
 }
 
 // v + 1 digits or one more, as products and quotients have them: at most one is cut.

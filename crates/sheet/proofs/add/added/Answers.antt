@@ -11,8 +11,8 @@ use Rattle.sheet.proofs.add.added.Goals as goal
 pub aligned-x-requires : goal.aligned-x-requires
 aligned-x-requires c = (c.requires.0.some, (pair c.args.v c.args.a c.args.b c.requires.0).place)
 
-pub overflow_add-am : goal.overflow_add-am
-overflow_add-am c =
+pub overflow_add-a : goal.overflow_add-a
+overflow_add-a c =
     let p = pair c.args.v c.args.a c.args.b c.requires.0 in
     omega (arith, p.small, p.small₂, p.room, c.aligned-x.ensures.small)
 

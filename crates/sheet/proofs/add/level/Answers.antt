@@ -22,8 +22,8 @@ found : (v : ℕ) (a b : Sheet) → Addends v a b → a.e ≡ b.e → Place (a.m
 found v a b h e =
     place_take a.m b.m a.e (extent b) h.order (subst (λ (i : ℕ). Place b.m false i (extent b) 1) (sym e) (place_whole b.m b.e))
 
-pub overflow_sub-am : goal.overflow_sub-am
-overflow_sub-am c = digits c.args.v c.args.a c.args.b c.requires.0 c.requires.2
+pub overflow_sub-a : goal.overflow_sub-a
+overflow_sub-a c = digits c.args.v c.args.a c.args.b c.requires.0 c.requires.2
 
 pub rounded-requires : goal.rounded-requires
 rounded-requires c =

@@ -24,11 +24,11 @@ added-requires c =
 
 pub level-requires : goal.level-requires
 level-requires c =
-    (c.requires, other c.args.a.neg c.args.b.neg c.if-a-b.false, c.if-ae-be.true)
+    (c.requires, other c.args.a.neg c.args.b.neg c.if-a-b.false, c.if-a-b-2.true)
 
 lower : (a b : ℕ) → (a ≡ b → ⊥) → b ≤ a → b < a
 lower a b n h = omega arith
 
 pub taken-requires : goal.taken-requires
 taken-requires c =
-    (c.requires, other c.args.a.neg c.args.b.neg c.if-a-b.false, lower c.args.a.e c.args.b.e c.if-ae-be.false (pair c.args.v c.args.a c.args.b c.requires).place)
+    (c.requires, other c.args.a.neg c.args.b.neg c.if-a-b.false, lower c.args.a.e c.args.b.e c.if-a-b-2.false (pair c.args.v c.args.a c.args.b c.requires).place)

@@ -68,22 +68,24 @@ some_left v false d p f = (λ t. absurd (false≢true t), omega arith)
 pub aligned-x-requires : goal.aligned-x-requires
 aligned-x-requires c = (c.requires.0.some, omega (arith, c.requires.2))
 
-at : (c : goal.After-from-more) → Ranges c.args.v c.args.a c.aligned-x.result
-at c =
-    ranges c.args.v c.args.a c.args.b c.aligned-x.result c.requires.0 c.requires.2 c.aligned-x.ensures
+pub overflow_mul-a : goal.overflow_mul-a
+overflow_mul-a c =
+    let r = ranges c.args.v c.args.a c.args.b c.aligned-x.result c.requires.0 c.requires.2 c.aligned-x.ensures in
+    omega (arith, r.twice)
 
-pub overflow_mul-am : goal.overflow_mul-am
-overflow_mul-am c = omega (arith, (at c).twice)
+pub overflow_sub-a-2 : goal.overflow_sub-a-2
+overflow_sub-a-2 c =
+    let r = ranges c.args.v c.args.a c.args.b c.aligned-x.result c.requires.0 c.requires.2 c.aligned-x.ensures in
+    omega (arith, r.below)
 
-pub overflow_sub-am : goal.overflow_sub-am
-overflow_sub-am c = omega (arith, (at c).below)
-
-pub overflow_sub-am-2 : goal.overflow_sub-am-2
-overflow_sub-am-2 c = omega (arith, (at c).below, c.from-more.ensures, at_most_one c.aligned-x.result.sticky)
+pub overflow_sub-a-3 : goal.overflow_sub-a-3
+overflow_sub-a-3 c =
+    let r = ranges c.args.v c.args.a c.args.b c.aligned-x.result c.requires.0 c.requires.2 c.aligned-x.ensures in
+    omega (arith, r.below, c.from-more.ensures, at_most_one c.aligned-x.result.sticky)
 
 pub topped-requires : goal.topped-requires
 topped-requires c =
-    let r = at c in
+    let r = ranges c.args.v c.args.a c.args.b c.aligned-x.result c.requires.0 c.requires.2 c.aligned-x.ensures in
     let l = rw (sym c.from-more.ensures) at (some_left c.args.v c.aligned-x.result.sticky (c.args.a.m * 2 - c.aligned-x.result.m) (omega (arith, r.below)) r.full) in
     (c.requires.0.first.width, record { full = λ t _. l.0 t; room = omega (arith, r.high) }, l.1, omega (arith, r.low))
 

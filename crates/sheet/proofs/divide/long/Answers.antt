@@ -14,8 +14,8 @@ overflow_mul-am c = omega (arith, c.requires.0.high)
 pub parted-x-requires : goal.parted-x-requires
 parted-x-requires c = omega (arith, c.requires.1.low)
 
-pub loop-k-init : goal.loop-k-init
-loop-k-init c = let q = c.parted-x.ensures.quotes in (record { whole = q.whole ∙ omega arith; left = q.left }, omega arith)
+pub loop-init : goal.loop-init
+loop-init c = let q = c.parted-x.ensures.quotes in (record { whole = q.whole ∙ omega arith; left = q.left }, omega arith)
 
 -- a fourth turn still has room
 room : (am bm k : ℕ) → am < 2 ^ 53 → 2 ^ 52 ≤ bm → k < 4 → am * 512 * 2048 ^ k < 2 ^ 52 * bm
@@ -33,23 +33,20 @@ last am k e = ap (λ (n : ℕ). am * 512 * 2048 ^ n) e ∙ omega arith
 pub eleven_more-x-requires : goal.eleven_more-x-requires
 eleven_more-x-requires c =
     let k = c.args in
-    let l = c.loop-k in
-    (quotes_most _ k.bm (2 ^ 52) l.x l.invariant.0 (room k.am k.bm l.k c.requires.0.high c.requires.1.low (omega arith)), l.invariant.0.left, c.requires.1.high)
+    let l = c.loop in
+    (quotes_most _ k.bm (2 ^ 52) l.x l.invariant.0 (room k.am k.bm l.counter c.requires.0.high c.requires.1.low (omega arith)), l.invariant.0.left, c.requires.1.high)
 
-pub overflow_add-k : goal.overflow_add-k
-overflow_add-k c = omega arith
+pub loop-smaller : goal.loop-smaller
+loop-smaller c = omega arith
 
-pub loop-k-smaller : goal.loop-k-smaller
-loop-k-smaller c = omega arith
-
-pub loop-k-preserved : goal.loop-k-preserved
-loop-k-preserved c =
-    let l = c.loop-k in
+pub loop-preserved : goal.loop-preserved
+loop-preserved c =
+    let l = c.loop in
     let k = c.args in
     let q = c.eleven_more-x.ensures in
-    (record { whole = q.whole ∙ ap (λ (n : ℕ). n * 2048) l.invariant.0.whole ∙ turn k.am l.k; left = q.left }, omega arith)
+    (record { whole = q.whole ∙ ap (λ (n : ℕ). n * 2048) l.invariant.0.whole ∙ turn k.am l.counter; left = q.left }, omega arith)
 
 pub returns : goal.returns
 returns c =
-    let l = c.loop-k in
-    (record { whole = l.invariant.0.whole ∙ last c.args.am l.k (omega arith); left = l.invariant.0.left })
+    let l = c.loop in
+    (record { whole = l.invariant.0.whole ∙ last c.args.am l.counter (omega arith); left = l.invariant.0.left })

@@ -4,8 +4,8 @@ use Prim.Native.Nat.{◌-◌, ◌*◌, ◌^◌, ◌≤◌}
 use Rattle.sheet.specs.Steps.{Quotes}
 use Rattle.sheet.proofs.divide.long.Given as goal
 
-abbrev pub invariant-loop-k : goal.invariant-loop-k
-invariant-loop-k l = Quotes (l.am * 512 * 2048 ^ l.k) l.bm l.x × (l.k ≤ 4)
+abbrev pub invariant-loop : goal.invariant-loop
+invariant-loop l = Quotes (l.am * 512 * 2048 ^ l.counter) l.bm l.x × (l.counter ≤ 4)
 
-abbrev pub decreases-loop-k : goal.decreases-loop-k
-decreases-loop-k l = 4 - l.k
+abbrev pub decreases-loop : goal.decreases-loop
+decreases-loop l = 4 - l.counter

@@ -40,37 +40,34 @@ ranges v a b h p =
       place = omega (arith, x.low, y.high, w.high);
     }
 
-pub returns-then-am-eq0 : goal.returns-then-am-eq0
-returns-then-am-eq0 c =
+pub returns-then-a-eq0 : goal.returns-then-a-eq0
+returns-then-a-eq0 c =
     let k = above_zero c.args.b c.requires.1 in
-    sym (quotient-zero c.args.up c.args.v c.args.a c.args.b k.0 k.1 c.if-am-eq0.true)
-
-at : (c : goal.Else-am-eq0) → Ranges c.args.v c.args.a c.args.b
-at c = ranges c.args.v c.args.a c.args.b c.requires c.if-am-eq0.false
+    sym (quotient-zero c.args.up c.args.v c.args.a c.args.b k.0 k.1 c.if-a-eq0.true)
 
 pub shared-x-requires : goal.shared-x-requires
-shared-x-requires c = let r = at c in (c.requires.0.0.width, r.first, r.second)
+shared-x-requires c = let r = ranges c.args.v c.args.a c.args.b c.requires c.if-a-eq0.false in (c.requires.0.0.width, r.first, r.second)
 
-pub overflow_add-ae : goal.overflow_add-ae
-overflow_add-ae c = omega (arith, (at c.before).high)
+pub overflow_add-a : goal.overflow_add-a
+overflow_add-a c = omega (arith, (ranges c.args.v c.args.a c.args.b c.requires c.if-a-eq0.false).high)
 
-pub overflow_sub-ae : goal.overflow_sub-ae
-overflow_sub-ae c = omega (arith, (at c.before).few)
+pub overflow_sub-a : goal.overflow_sub-a
+overflow_sub-a c = omega (arith, (ranges c.args.v c.args.a c.args.b c.requires c.if-a-eq0.false).few)
 
-pub overflow_sub-ae-2 : goal.overflow_sub-ae-2
-overflow_sub-ae-2 c = omega (arith, (at c.before).low)
+pub overflow_sub-a-2 : goal.overflow_sub-a-2
+overflow_sub-a-2 c = omega (arith, (ranges c.args.v c.args.a c.args.b c.requires c.if-a-eq0.false).low)
 
 pub trimmed-requires : goal.trimmed-requires
 trimmed-requires c =
     let k = c.args in
-    let r = at c.before in
+    let r = ranges c.args.v c.args.a c.args.b c.requires c.if-a-eq0.false in
     let d = shared_digits k.v k.a.m k.b.m c.shared-x.result c.shared-x.ensures r.first r.second in
     (c.requires.0.0.width, d.0, d.1, omega (arith, r.high))
 
 pub returns : goal.returns
 returns c =
     let k = c.args in
-    let r = at c.before.before in
+    let r = ranges c.args.v c.args.a c.args.b c.requires c.if-a-eq0.false in
     let x = c.shared-x in
     let e = k.a.e + 262143 - k.v - k.b.e in
     let n = k.a.m * 2 ^ suc k.v in

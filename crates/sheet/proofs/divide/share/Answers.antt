@@ -5,12 +5,12 @@ use native.Mathlib.Nat.{mul-le-mul_left, mul-le-mul_right}
 use native.Mathlib.Omega.{arith}
 use lib.Pow.{pow-add, pow_pos, shl_exact}
 use Rattle.sheet.specs.declared.Sheet.{Sheet}
+use Rattle.sheet.specs.declared.divide.Outcome.{Outcome}
 use Rattle.sheet.specs.Range.{InRange}
 use Rattle.sheet.specs.Steps.{Quotes}
 use Rattle.sheet.proofs.Live.{bias-is, live, width_room}
 use Rattle.sheet.proofs.Divisions.{quotes_place, quotes_least}
 use Rattle.sheet.proofs.Operations.{share_is, share_zero}
-use Rattle.sheet.proofs.divide.share.Goals.{After-parted-x, Else-am-eq0}
 use Rattle.sheet.proofs.divide.share.Goals as goal
 
 record Ranges (v : ℕ) (a : Sheet) : Type 0 where
@@ -32,37 +32,38 @@ ranges v a h p =
       high = omega (arith, x.high);
     }
 
-pub returns-then-am-eq0 : goal.returns-then-am-eq0
-returns-then-am-eq0 c = let k = c.args in sym (share_zero k.up k.v k.a k.a k.n c.requires.1 c.if-am-eq0.true)
+pub returns-then-a-eq0 : goal.returns-then-a-eq0
+returns-then-a-eq0 c = let k = c.args in sym (share_zero k.up k.v k.a k.a k.n c.requires.1 c.if-a-eq0.true)
 
-at : (c : Else-am-eq0) → Ranges c.args.v c.args.a
-at c = ranges c.args.v c.args.a c.requires.0 c.if-am-eq0.false
+-- the digits as the division found them: all that are asked for
+record Found (v n : ℕ) (a : Sheet) (x : Outcome) : Type 0 where
+  quotes : Quotes (a.m * 2 ^ (63 - v)) n x
+  full : 2 ^ v ≤ x.digits
 
--- the digits as the division found them
-quotes : (c : After-parted-x) → Quotes (c.args.a.m * 2 ^ (63 - c.args.v)) c.args.n c.parted-x.result
-quotes c = subst (λ (i : ℕ). Quotes i c.args.n c.parted-x.result) (at c.before).shift c.parted-x.ensures.quotes
+found : (v n : ℕ) (a : Sheet) (x : Outcome) → InRange v a → n ≤ 2048 → Ranges v a → Quotes (a.m * 2 ^ (63 - v) % 2 ^ 64) n x → Found v n a x
+found v n a x h s r q =
+    let p = subst (λ (i : ℕ). Quotes i n x) r.shift q in
+    let l : 2 ^ v * n ≤ 2 ^ v * 2048 = mul-le-mul_left (2 ^ v) s in
+    record { quotes = p; full = quotes_least (a.m * 2 ^ (63 - v)) n (2 ^ v) x p (omega (arith, r.top, width_room h.width)) }
 
--- all that are asked for
-full : (c : After-parted-x) → 2 ^ c.args.v ≤ c.parted-x.result.digits
-full c =
-    let k = c.args in
-    let h = c.requires in
-    let l : 2 ^ k.v * k.n ≤ 2 ^ k.v * 2048 = mul-le-mul_left (2 ^ k.v) h.2 in
-    quotes_least (k.a.m * 2 ^ (63 - k.v)) k.n (2 ^ k.v) c.parted-x.result (quotes c)
-    (omega (arith, (at c.before).top, width_room h.0.width))
-
-pub overflow_sub-ae : goal.overflow_sub-ae
-overflow_sub-ae c = omega (arith, (at c.before).low)
+pub overflow_sub-a : goal.overflow_sub-a
+overflow_sub-a c =
+    let r = ranges c.args.v c.args.a c.requires.0 c.if-a-eq0.false in
+    omega (arith, r.low)
 
 pub topped-requires : goal.topped-requires
 topped-requires c =
-    let r = at c.before in
-    (c.requires.0.width, record { full = λ _ _. full c; room = omega (arith, r.high) }, omega (arith, full c, pow_pos c.args.v), omega (arith, r.low))
+    let k = c.args in
+    let r = ranges k.v k.a c.requires.0 c.if-a-eq0.false in
+    let f = found k.v k.n k.a c.parted-x.result c.requires.0 c.requires.2 r c.parted-x.ensures.quotes in
+    (c.requires.0.width, record { full = λ _ _. f.full; room = omega (arith, r.high) }, omega (arith, f.full, pow_pos k.v), omega (arith, r.low))
 
 pub returns : goal.returns
 returns c =
     let k = c.args in
     let u = 63 - k.v in
     let e = k.a.e - u in
-    c.topped.ensures (k.a.m * 2 ^ u * 2 ^ e) k.n (quotes_place (k.a.m * 2 ^ u) k.n e c.parted-x.result (quotes c.before))
-    ∙ sym (share_is k.up k.v k.a k.a e u k.n c.requires.1 (omega (arith, (at c.before.before).low)))
+    let r = ranges k.v k.a c.requires.0 c.if-a-eq0.false in
+    let f = found k.v k.n k.a c.parted-x.result c.requires.0 c.requires.2 r c.parted-x.ensures.quotes in
+    c.topped.ensures (k.a.m * 2 ^ u * 2 ^ e) k.n (quotes_place (k.a.m * 2 ^ u) k.n e c.parted-x.result f.quotes)
+    ∙ sym (share_is k.up k.v k.a k.a e u k.n c.requires.1 (omega (arith, r.low)))

@@ -19,8 +19,8 @@ is-onward v n s r h l k =
     (λ g. k.plain g ∙ sym (onward-plain v n s g))
     (le_or_lt (2 ^ suc v) (s.m + n))
 
-pub overflow_add-m : goal.overflow_add-m
-overflow_add-m c = omega (arith, (range_spelled c.requires.0).fit.small, width_room c.requires.0.width)
+pub overflow_add-s : goal.overflow_add-s
+overflow_add-s c = omega (arith, (range_spelled c.requires.0).fit.small, width_room c.requires.0.width)
 
 pub carried-requires : goal.carried-requires
 carried-requires c = (c.requires.0.width, omega (arith, (range_spelled c.requires.0).fit.small), omega (arith, place_room c.requires.0))

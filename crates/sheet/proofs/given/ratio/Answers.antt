@@ -21,6 +21,6 @@ returns c =
     let x = c.long_division-x in
     let d = subst (λ (i : ℕ). Dividing k.num k.den i x.result) (sym bias-is) x.ensures.found in
     let at = division_place k.num k.den bias x.result d in (
-      c.rounded-down.ensures (k.num * 2 ^ bias) k.den at ∙ sym (ratio_is false k.v k.neg k.num k.den c.requires.1),
-      c.rounded-up.ensures (k.num * 2 ^ bias) k.den at ∙ sym (ratio_is true k.v k.neg k.num k.den c.requires.1),
+      c.rounded.ensures (k.num * 2 ^ bias) k.den at ∙ sym (ratio_is false k.v k.neg k.num k.den c.requires.1),
+      c.rounded-2.ensures (k.num * 2 ^ bias) k.den at ∙ sym (ratio_is true k.v k.neg k.num k.den c.requires.1),
     )

@@ -15,7 +15,6 @@ use Rattle.sheet.proofs.Live.{bias-is, live, range_spelled}
 use Rattle.sheet.proofs.Places.{place_whole, place_scale}
 use Rattle.sheet.proofs.Products.{product_digits, product_none}
 use Rattle.sheet.proofs.Operations.{product_is, product_zero}
-use Rattle.sheet.proofs.multiply.product.Goals.{Else-m-eq0}
 use Rattle.sheet.proofs.multiply.product.Goals as goal
 
 record Ranges (v : ℕ) (a b : Sheet) : Type 0 where
@@ -48,45 +47,48 @@ some-zero v a b m h e z = ⊎_elim inl (λ p. ⊎_elim inr (λ q. absurd (none p
 pub multiplied-x-requires : goal.multiplied-x-requires
 multiplied-x-requires c = (c.requires.0.width, (range_spelled c.requires.0).fit.small, (range_spelled c.requires.1).fit.small)
 
-pub returns-then-m-eq0 : goal.returns-then-m-eq0
-returns-then-m-eq0 c =
+pub returns-then-x-eq0 : goal.returns-then-x-eq0
+returns-then-x-eq0 c =
     let k = c.args in
-    sym (product_zero k.up k.v k.a k.b (some-zero k.v k.a k.b c.multiplied-x.result.m c.requires c.multiplied-x.ensures.digits c.if-m-eq0.true))
+    sym (product_zero k.up k.v k.a k.b (some-zero k.v k.a k.b c.multiplied-x.result.m c.requires c.multiplied-x.ensures.digits c.if-x-eq0.true))
 
-at : (c : Else-m-eq0) → Ranges c.args.v c.args.a c.args.b
-at c =
-    let k = c.args in
-    let x = c.multiplied-x in
-    ranges k.v k.a k.b c.requires
-    (λ z. c.if-m-eq0.false (product_none k.v k.a.m k.b.m x.result.m x.ensures.digits (inl z)))
-    (λ z. c.if-m-eq0.false (product_none k.v k.a.m k.b.m x.result.m x.ensures.digits (inr z)))
+-- and where some are left, none is
+some : (v : ℕ) (a b : Sheet) (m : ℕ) → InRange v a × InRange v b → m ≡ a.m * b.m / 2 ^ v → (m ≡ 0 → ⊥) → Ranges v a b
+some v a b m h e n =
+    ranges v a b h (λ z. n (product_none v a.m b.m m e (inl z))) (λ z. n (product_none v a.m b.m m e (inr z)))
 
-pub overflow_add-ae : goal.overflow_add-ae
-overflow_add-ae c = omega (arith, (at c.before.before).high)
+pub overflow_add-a : goal.overflow_add-a
+overflow_add-a c =
+    let r = some c.args.v c.args.a c.args.b c.multiplied-x.result.m c.requires c.multiplied-x.ensures.digits c.if-x-eq0.false in
+    omega (arith, r.high)
 
-pub overflow_add-ae-2 : goal.overflow_add-ae-2
-overflow_add-ae-2 c = omega (arith, (at c.before.before).high, c.requires.0.width.high)
+pub overflow_add-a-else-x-eq0 : goal.overflow_add-a-else-x-eq0
+overflow_add-a-else-x-eq0 c =
+    let r = some c.args.v c.args.a c.args.b c.multiplied-x.result.m c.requires c.multiplied-x.ensures.digits c.if-x-eq0.false in
+    omega (arith, r.high, c.requires.0.width.high)
 
-pub overflow_sub-ae : goal.overflow_sub-ae
-overflow_sub-ae c = omega (arith, (at c.before.before).low)
+pub overflow_sub-a : goal.overflow_sub-a
+overflow_sub-a c =
+    let r = some c.args.v c.args.a c.args.b c.multiplied-x.result.m c.requires c.multiplied-x.ensures.digits c.if-x-eq0.false in
+    omega (arith, r.low)
 
 pub trimmed-requires : goal.trimmed-requires
 trimmed-requires c =
     let k = c.args in
     let x = c.multiplied-x in
-    let r = at c.before.before in
+    let r = some k.v k.a k.b x.result.m c.requires x.ensures.digits c.if-x-eq0.false in
     let d = product_digits k.v k.a.m k.b.m x.result.m x.ensures.digits r.first r.second in
     (c.requires.0.width, d.0, d.1, omega (arith, r.high, c.requires.0.width.high))
 
 whole : (m : ℕ) → Place m false 0 m 1
 whole m = subst (λ (n : ℕ). Place m false 0 n 1) (mul-one m) (place_whole m 0)
 
-pub returns : goal.returns
+pub returns-else-x-eq0 : goal.returns-else-x-eq0
 unfolding xor
-returns c =
+returns-else-x-eq0 c =
     let k = c.args in
     let x = c.multiplied-x in
-    let r = at c.before.before.before in
+    let r = some k.v k.a k.b x.result.m c.requires x.ensures.digits c.if-x-eq0.false in
     let e = k.a.e + k.b.e - 262144 in
     let m = k.a.m * k.b.m in
     let place : x.result.e + e ≡ k.a.e + k.b.e + k.v - 262144 = let p = x.ensures.place in omega (arith, r.low) in
