@@ -14,10 +14,10 @@ use lib.Ieee.Exact.{HasValue}
 use borrow.Author.Tests.{le-leb, lt-leb}
 use Rattle.exact.specs.Fraction.{parts, negative, ◌≈◌}
 use Rattle.exact.proofs.Fraction.Order.{≈-refl}
+use Rattle.sheet.specs.declared.place.Found.{Found}
 use Rattle.sheet.specs.declared.Sheet.{Sheet}
 use Rattle.sheet.specs.Number.{bias, value, Normal}
 use Rattle.sheet.specs.Range.{Grain, Doubled}
-use Rattle.doubles.specs.declared.encode.Places.{Places}
 use Rattle.doubles.specs.Handed.{double_of, DoubleValue}
 use Rattle.doubles.specs.Encoded.{Encodable, Settled}
 use Rattle.doubles.proofs.Pattern.{sign_of, field_of, digits_of, low-pattern, normal-pattern, finer, value-finite, no_nan}
@@ -119,7 +119,7 @@ pub normal-few : (v : ℕ) (s : Sheet) → Normal v s → suc v ≤ 53 → s.m <
 normal-few v s n h = elim n [ inl z ↦ subst (λ (t : Sheet). t.m < 2 ^ 53) (sym z) (lit< tt) | inr d ↦ lt_of_lt_of_le d.high (pow_mono h) ]
 
 -- ---- the pattern of a settled size
-module _ (m e : ℕ) (r : Places) (given : Encodable m e) (settled : Settled m e r) where
+module _ (m e : ℕ) (r : Found) (given : Encodable m e) (settled : Settled m e r) where
   pub place_in : r.e - 261070 ≤ 2045
   unfolding bias
   place_in = elim (dec_le r.e 261070) [

@@ -8,32 +8,20 @@ ghost use Rattle.doubles.specs.Decoded.{Decoded};
 
 use sheet::Sheet;
 
-// ± m * 2^e in units of 2^-262144, as a sheet number holds its place.
-#[derive(Clone, Copy)]
-pub struct ExactParts {
-    pub neg: bool,
-    pub m: u64,
-    pub e: u64,
-}
-
-// An exponent's field of 0 stands for a subnormal f64 or a zero: no leading digit, and the field counts as 1.
-pub fn decode(x: f64) -> ExactParts
+// As ± m * 2^e, with the place as a sheet number holds it; m is exact and need not have all digits of a width. An exponent's field of 0 stands for a subnormal f64 or a zero: no leading digit, and the field counts as 1.
+pub fn decode(x: f64) -> Sheet
     requires { T (finite x) }
     ensures { Decoded x result }
 {
-    let bits = f64::to_bits(x);
+    let bits = x.to_bits();
     let field = bits % 0x8000_0000_0000_0000 / 0x10_0000_0000_0000;
     let digits = bits % 0x10_0000_0000_0000;
     let neg = 0x8000_0000_0000_0000 <= bits;
     if field == 0 {
         if digits == 0 {
-            ExactParts {
-                neg: false,
-                m: 0,
-                e: 0,
-            }
+            Sheet::ZERO
         } else {
-            ExactParts {
+            Sheet {
                 neg,
                 m: digits,
                 e: 261070,
@@ -42,7 +30,7 @@ pub fn decode(x: f64) -> ExactParts
     } else {
         let m = 0x10_0000_0000_0000 + digits;
         let e = field + 261069;
-        ExactParts { neg, m, e }
+        Sheet { neg, m, e }
     }
 }
 

@@ -8,15 +8,8 @@ ghost use Rattle.doubles.specs.Encoded.{Settled, Encodable};
 
 use sheet::{Found, Sheet};
 
-// m * 2^e in units of 2^-262144.
-#[derive(Clone, Copy)]
-pub struct Places {
-    pub m: u64,
-    pub e: u64,
-}
-
 // The same size with 53 digits, or with fewer at the last place of an f64, 2^-1074: a subnormal one. Digits below that place are zeros.
-fn settled(m: u64, e: u64) -> Places
+fn settled(m: u64, e: u64) -> Found
     requires encodable { Encodable m e }
     requires m_nonzero { 0 < m }
     ensures { Settled m e result }
@@ -26,8 +19,7 @@ fn settled(m: u64, e: u64) -> Places
         sticky: false,
         e,
     };
-    let x = sheet::normalised(size, 52, 261070);
-    Places { m: x.m, e: x.e }
+    sheet::normalised(size, 52, 261070)
 }
 
 // The leading digit of 53 adds one to the exponent's field; a subnormal f64 has none, and the field 0.
@@ -39,9 +31,7 @@ pub fn encode(neg: bool, m: u64, e: u64) -> f64
         return 0.0;
     }
     let p = settled(m, e);
-    let digits = p.m;
-    let place = p.e;
-    let bits = (place - 261070) * 0x10_0000_0000_0000 + digits;
+    let bits = (p.e - 261070) * 0x10_0000_0000_0000 + p.m;
     if neg {
         f64::from_bits(0x8000_0000_0000_0000 + bits)
     } else {

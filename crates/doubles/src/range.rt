@@ -12,7 +12,7 @@ pub fn lies_within(x: f64, low: f64, high: f64) -> bool
     requires high_finite { T (finite high) }
     ensures { result ≡ within (exact_of low) (exact_of high) x }
 {
-    if low <= x { x <= high } else { false }
+    low <= x && x <= high
 }
 
 // The state sheet's and the density check's.
@@ -117,10 +117,5 @@ pub fn passes(lower: f64, upper: f64, tolerance: f64) -> bool
     requires tolerance_finite { T (finite tolerance) }
     ensures { result ≡ within_tolerance (exact_of lower) (exact_of upper) (exact_of tolerance) }
 {
-    let least = -tolerance;
-    if least <= lower {
-        upper <= tolerance
-    } else {
-        false
-    }
+    -tolerance <= lower && upper <= tolerance
 }

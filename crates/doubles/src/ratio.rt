@@ -16,8 +16,8 @@ pub fn ratio_exponent(liquid: f64, vapour: f64) -> u64
     let mut v = vapour;
     let mut k = 0;
     while v * 2.0 <= liquid {
-        v = v * 2.0;
-        k = k + 1;
+        v *= 2.0;
+        k += 1;
     }
     k
 }

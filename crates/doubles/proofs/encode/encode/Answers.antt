@@ -1,18 +1,15 @@
 -- `encode::encode` meets its contract. Assumes nothing.
-use Prim.Native.Nat.{ℕ, ◌-◌, ◌*◌, ◌^◌, ◌≤◌}
+use Prim.Native.Nat.{ℕ, ◌*◌, ◌^◌}
 use mathlib.Core.Path.{◌≡◌, sym, ap, subst, ◌∙◌}
-use mathlib.Core.Bool.{Bool, true, false, not}
+use mathlib.Core.Bool.{Bool, true, false}
 use native.Mathlib.Omega.{arith}
 use native.Mathlib.Nat.{zero-mul}
-use lib.Dec.{T}
-use lib.Ieee.{binary64, of_bits, nan_bits}
+use lib.Ieee.{of_bits}
 use Rattle.exact.specs.Fraction.{nat, parts, ◌≈◌}
 use Rattle.exact.proofs.Fraction.Parts.{parts-zero}
 use Rattle.sheet.specs.Number.{bias}
-use Rattle.doubles.specs.Handed.{double_of}
 use Rattle.doubles.proofs.Handed.{double_of-zero}
-use Rattle.doubles.proofs.Write.{pattern_of, place_in, written-no_nan, written}
-use Rattle.doubles.proofs.encode.encode.Goals.{After-settled-p}
+use Rattle.doubles.proofs.Write.{place_in, written-no_nan, written}
 use Rattle.doubles.proofs.encode.encode.Goals as goal
 
 -- a size of zero
@@ -26,40 +23,26 @@ returns-then-m-eq0 c = sym (double_of-zero (no-digits c.args.neg c.args.m c.args
 pub settled-p-requires : goal.settled-p-requires
 settled-p-requires c = record { encodable = c.requires; m_nonzero = omega arith }
 
--- where the pattern is made
-in_place : (c : After-settled-p) → c.settled-p.result.e - 261070 ≤ 2045
-in_place c =
-    place_in c.args.m c.args.e c.settled-p.result c.requires c.settled-p.ensures
-
-no_nan : (c : After-settled-p) (s : Bool) → T (not (nan_bits binary64 (pattern_of s c.settled-p.result.m (c.settled-p.result.e - 261070))))
-no_nan c =
-    written-no_nan c.args.m c.args.e c.settled-p.result c.requires c.settled-p.ensures
-
-is-double : (c : After-settled-p) (s : Bool)
-    → of_bits binary64 (pattern_of s c.settled-p.result.m (c.settled-p.result.e - 261070)) ≡ double_of (parts s (c.args.m * 2 ^ c.args.e) (2 ^ bias))
-is-double c s =
-    written c.args.m c.args.e c.settled-p.result c.requires c.settled-p.ensures s (omega arith)
-
 pub overflow_sub-bits : goal.overflow_sub-bits
 overflow_sub-bits c = omega (arith, c.settled-p.ensures)
 
 pub overflow_mul-bits : goal.overflow_mul-bits
-overflow_mul-bits c = omega (arith, in_place c)
+overflow_mul-bits c = omega (arith, place_in c.args.m c.args.e c.settled-p.result c.requires c.settled-p.ensures)
 
 pub overflow_add-bits : goal.overflow_add-bits
-overflow_add-bits c = omega (arith, in_place c, c.settled-p.ensures)
+overflow_add-bits c = omega (arith, place_in c.args.m c.args.e c.settled-p.result c.requires c.settled-p.ensures, c.settled-p.ensures)
 
 pub overflow_add-result : goal.overflow_add-result
-overflow_add-result c = omega (arith, in_place c.before, c.settled-p.ensures)
+overflow_add-result c = omega (arith, place_in c.args.m c.args.e c.settled-p.result c.requires c.settled-p.ensures, c.settled-p.ensures)
 
 pub float_from_bits-result : goal.float_from_bits-result
-float_from_bits-result c = no_nan c.before true
+float_from_bits-result c = written-no_nan c.args.m c.args.e c.settled-p.result c.requires c.settled-p.ensures true
 
 pub float_from_bits-result-else-neg : goal.float_from_bits-result-else-neg
-float_from_bits-result-else-neg c = no_nan c.before false
+float_from_bits-result-else-neg c = written-no_nan c.args.m c.args.e c.settled-p.result c.requires c.settled-p.ensures false
 
 pub returns-then-neg : goal.returns-then-neg
-returns-then-neg c = rw c.if-neg.true (is-double c.before true)
+returns-then-neg c = rw c.if-neg.true (written c.args.m c.args.e c.settled-p.result c.requires c.settled-p.ensures true (omega arith))
 
 pub returns-else-neg : goal.returns-else-neg
-returns-else-neg c = rw c.if-neg.false (is-double c.before false)
+returns-else-neg c = rw c.if-neg.false (written c.args.m c.args.e c.settled-p.result c.requires c.settled-p.ensures false (omega arith))

@@ -13,9 +13,9 @@ use Rattle.doubles.proofs.encode.settled.Goals as goal
 low : (m e n : ℕ) → 0 < m → m * 2 ^ e < 2 ^ n → e < n
 low m e n p h = pow_lt_back e n (lt_of_le_of_lt (le_trans (le_of_eq (sym (one-mul (2 ^ e)))) (mul-le-mul_right (2 ^ e) p)) h)
 
-pub normalised-x-requires : goal.normalised-x-requires
+pub normalised-requires : goal.normalised-requires
 unfolding bias
-normalised-x-requires c =
+normalised-requires c =
     let k = c.args in
     let g = c.requires.encodable in
     loose _ k.m k.e _ c.requires.m_nonzero (omega (arith, g.few)) (grain-coarser 261070 _ _ (omega arith) g.fine) (omega arith) (let l = low k.m k.e 263168 c.requires.m_nonzero g.small in omega arith)
@@ -25,9 +25,9 @@ unfolding bias
 returns c =
     let k = c.args in
     let g = c.requires.encodable in
-    let n = c.normalised-x.ensures in
+    let n = c.normalised.ensures in
     record {
-      value = same_size _ k.m k.e _ c.requires.m_nonzero (omega (arith, g.few)) (grain-coarser 261070 _ _ (omega arith) g.fine) c.normalised-x.result n;
+      value = same_size _ k.m k.e _ c.requires.m_nonzero (omega (arith, g.few)) (grain-coarser 261070 _ _ (omega arith) g.fine) c.normalised.result n;
       few = omega (arith, n.small);
       least = omega (arith, n.least);
       full = λ h. omega (arith, n.full h);
