@@ -1,9 +1,10 @@
 // The quotient of brackets by a divisor whose lower end is above zero: two roundings, by the signs of the numerator's ends; and by a small
 // whole number, which has one end. Assumes nothing.
-ghost use Rattle.std.specs.Prelude.{◌≡◌, suc, ◌≤◌, ◌<◌, not};
+ghost use Rattle.std.specs.Prelude.{◌≡◌, suc, ◌≤◌, ◌<◌};
+ghost use Rattle.std.specs.Bool.{beq};
 ghost use Rattle.exact.specs.Fraction.{nat, ◌⊘◌, ◌≺◌};
 ghost use Rattle.sheet.specs.Number.{value};
-ghost use Rattle.sheet.specs.Round.{down, up};
+ghost use Rattle.sheet.specs.Round.{round};
 ghost use Rattle.sheet.specs.Range.{InRange};
 ghost use Rattle.bracket.specs.Span.{side, whole};
 ghost use Rattle.bracket.specs.Rules.{ends, divided};
@@ -13,20 +14,12 @@ use crate::Bracket;
 use crate::picked::end;
 use sheet::Sheet;
 
-// The least quotient of x by a number in b, rounded down: a numerator below zero takes the lower divisor.
-fn least_share(v: u64, x: Sheet, b: Bracket) -> Sheet
+// The greatest quotient of x by a number in b, rounded up, or the least, rounded down: toward zero the divisor is the upper one.
+fn outer_share(v: u64, up: bool, x: Sheet, b: Bracket) -> Sheet
     requires { InRange v x × Held v b × (nat 0 ≺ value b.lo) }
-    ensures { result ≡ down (suc v) (value x ⊘ side (not x.neg) (ends b)) }
+    ensures { result ≡ round up (suc v) (value x ⊘ side (beq up x.neg) (ends b)) }
 {
-    sheet::quotient(v, false, x, end(v, !x.neg, b))
-}
-
-// The greatest, rounded up: a numerator below zero takes the upper divisor.
-fn greatest_share(v: u64, x: Sheet, b: Bracket) -> Sheet
-    requires { InRange v x × Held v b × (nat 0 ≺ value b.lo) }
-    ensures { result ≡ up (suc v) (value x ⊘ side x.neg (ends b)) }
-{
-    sheet::quotient(v, true, x, end(v, x.neg, b))
+    sheet::quotient(v, up, x, end(v, up == x.neg, b))
 }
 
 // Each end of the numerator takes its own end of the divisor.
@@ -34,8 +27,8 @@ pub fn quotient(v: u64, a: Bracket, b: Bracket) -> Bracket
     requires { Held v a × Held v b × (nat 0 ≺ value b.lo) }
     ensures { result ≡ divided (suc v) (ends a) (ends b) }
 {
-    let lo = least_share(v, a.lo, b);
-    let hi = greatest_share(v, a.hi, b);
+    let lo = outer_share(v, false, a.lo, b);
+    let hi = outer_share(v, true, a.hi, b);
     Bracket { lo, hi }
 }
 
