@@ -15,16 +15,7 @@ fn only_stretches(v: u64, x: Bracket, term: Bracket, sum: Bracket, k: u64) -> bo
     requires { Held v x × Taken (ends x) × (k < 256) × (record { term = term; sum = sum } ≡ terms_to (suc v) (ends x) k) }
     ensures { result ≡ true → exp_total (suc v) (ends x) ≡ stretched (suc v) (257 - k) sum }
 {
-    let term_place = term.hi.e;
-    let sum_place = sum.lo.e;
-    let digits = x.hi.m;
-    if sum_place <= term_place + v + 1 {
-        return false;
-    }
-    if digits == 0 {
-        return false;
-    }
-    sheet::at_most(x.hi, sheet::whole(v, k + 1))
+    term.hi.e + v + 1 < sum.lo.e && x.hi.m != 0 && sheet::at_most(x.hi, sheet::whole(v, k + 1))
 }
 
 // The sum to 256, with the last term's upper end once more in its upper end. Term k + 1 is (term k times x) divided by k + 1.
@@ -35,15 +26,13 @@ fn total(v: u64, x: Bracket) -> Bracket
     let one = bracket::whole(v, 1);
     let mut term = one;
     let mut sum = one;
-    let mut k = 0;
-    while k < 256 {
+    for k in 0..256 {
         if only_stretches(v, x, term, sum, k) {
             return bracket::stretched(v, sum, 257 - k);
         }
         let product = bracket::product(v, term, x);
         term = bracket::share(v, product, k + 1);
         sum = bracket::sum(v, sum, term);
-        k += 1;
     }
     bracket::add_last(v, sum, term)
 }

@@ -26,11 +26,9 @@ pub fn ln_series(v: u64, z: Bracket) -> Bracket
     let square = bracket::product(v, z, z);
     let mut power = z;
     let mut sum = share(v, z, 0);
-    let mut j = 0;
-    while j < 20 {
+    for j in 0..20 {
         power = bracket::product(v, power, square);
         sum = bracket::sum(v, sum, share(v, power, j + 1));
-        j += 1;
     }
     let total = bracket::add_last(v, sum, share(v, power, 20));
     bracket::product(v, bracket::whole(v, 2), total)

@@ -20,19 +20,19 @@ loop-k-init c =
     let n = suc c.args.v in
     let e = c.whole-one.ensures ∙ sym (exp_term-first n X) in
     let f = c.whole-one.ensures ∙ sym (exp_sum-first n X) in
-    (omega arith, λ i. record { term = e i; sum = f i })
+    (λ i. record { term = e i; sum = f i })
 
 pub only_stretches-requires : goal.only_stretches-requires
 only_stretches-requires c =
     let p = c.requires in
-    (p.0, p.1, omega arith, c.loop-k.invariant.1)
+    (p.0, p.1, omega arith, c.loop-k.invariant)
 
 pub stretched-requires : goal.stretched-requires
 stretched-requires c =
     let p = c.requires in
     let i = c.loop-k.invariant in
     let w = p.0.lo.width in
-    (sum_held w p.1 i.0 i.1, omega (arith, pow_mono {i = 31} w.low))
+    (sum_held w p.1 c.loop-k.auto.k-end i, omega (arith, pow_mono {i = 31} w.low))
 
 pub returns-then-only_stretches : goal.returns-then-only_stretches
 returns-then-only_stretches c = c.stretched.ensures ∙ sym (c.only_stretches.ensures c.if-only_stretches.true)
@@ -41,20 +41,20 @@ pub product-product-requires : goal.product-product-requires
 product-product-requires c =
     let p = c.requires in
     let i = c.loop-k.invariant in
-    (term-held p.0.lo.width p.1 i.0 i.1, p.0)
+    (term-held p.0.lo.width p.1 c.loop-k.auto.k-end i, p.0)
 
 pub share-term-requires : goal.share-term-requires
 share-term-requires c =
     let p = c.requires in
     let i = c.loop-k.invariant in
-    (product_held p.0.lo.width p.1 i.0 (ap (λ (s : Terms). s.term) i.1) c.product-product.ensures, omega arith, omega arith)
+    (product_held p.0.lo.width p.1 c.loop-k.auto.k-end (ap (λ (s : Terms). s.term) i) c.product-product.ensures, omega arith, omega arith)
 
 pub sum-sum-requires : goal.sum-sum-requires
 sum-sum-requires c =
     let w = c.requires.0.lo.width in
     let l = c.loop-k in
-    let e = term-next (suc c.args.v) (ends c.args.x) l.k (ap (λ (s : Terms). s.term) l.invariant.1) c.product-product.ensures c.share-term.ensures in
-    (sum_held w c.requires.1 l.invariant.0 l.invariant.1, held-as e (exp_term-held w c.requires.1 (l.k + 1) (omega arith)))
+    let e = term-next (suc c.args.v) (ends c.args.x) l.k (ap (λ (s : Terms). s.term) l.invariant) c.product-product.ensures c.share-term.ensures in
+    (sum_held w c.requires.1 l.auto.k-end l.invariant, held-as e (exp_term-held w c.requires.1 (l.k + 1) (omega arith)))
 
 pub loop-k-preserved : goal.loop-k-preserved
 loop-k-preserved c =
@@ -62,21 +62,21 @@ loop-k-preserved c =
     let l = c.loop-k in
     let n = suc a.v in
     let X = ends a.x in
-    let e = term-next n X l.k (ap (λ (s : Terms). s.term) l.invariant.1) c.product-product.ensures c.share-term.ensures in
-    let f = sum_next n X l.k (ap (λ (s : Terms). s.sum) l.invariant.1) e c.sum-sum.ensures in
-    (omega arith, λ i. record { term = e i; sum = f i })
+    let e = term-next n X l.k (ap (λ (s : Terms). s.term) l.invariant) c.product-product.ensures c.share-term.ensures in
+    let f = sum_next n X l.k (ap (λ (s : Terms). s.sum) l.invariant) e c.sum-sum.ensures in
+    (λ i. record { term = e i; sum = f i })
 
 pub add_last-requires : goal.add_last-requires
 add_last-requires c =
     let f = c.requires.1 in
     let w = c.requires.0.lo.width in
     let i = c.loop-k.invariant in
-    let s = sum_held w f i.0 i.1 in
-    let t = term-held w f i.0 i.1 in
+    let s = sum_held w f c.loop-k.auto.k-end i in
+    let t = term-held w f c.loop-k.auto.k-end i in
     search rules
 
 pub returns : goal.returns
 returns c =
     let X = ends c.args.x in
     let i = c.loop-k.invariant in
-    total-last (suc c.args.v) X c.loop-k.k i.0 c.loop-k-test.false i.1 c.add_last.ensures
+    total-last (suc c.args.v) X c.loop-k.k c.loop-k.auto.k-end c.loop-k-test.false i c.add_last.ensures

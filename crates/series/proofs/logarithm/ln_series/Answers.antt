@@ -22,13 +22,13 @@ loop-j-init c =
     let n = suc c.args.v in
     let e = sym (ln_power-first n z) in
     let f = c.share-sum.ensures ∙ sym (ln_sum-first n z) in
-    (omega arith, λ i. record { power = e i; sum = f i })
+    (λ i. record { power = e i; sum = f i })
 
 pub product-power-requires : goal.product-power-requires
 product-power-requires c =
     let a = c.requires in
     let l = c.loop-j in
-    (power_held a l.j l.invariant.0 (ap (λ (s : Powers). s.power) l.invariant.1), square-held a c.product-square.ensures)
+    (power_held a l.j l.auto.j-end (ap (λ (s : Powers). s.power) l.invariant), square-held a c.product-square.ensures)
 
 pub overflow_add-j : goal.overflow_add-j
 overflow_add-j c = omega arith
@@ -36,38 +36,32 @@ overflow_add-j c = omega arith
 pub share-requires : goal.share-requires
 share-requires c =
     let l = c.loop-j in
-    (power_held c.requires (l.j + 1) (omega arith) (power-next (suc c.args.v) c.args.z l.j l.invariant.1 c.product-square.ensures c.product-power.ensures), omega arith)
+    (power_held c.requires (l.j + 1) (omega arith) (power-next (suc c.args.v) c.args.z l.j l.invariant c.product-square.ensures c.product-power.ensures), omega arith)
 
 pub sum-sum-requires : goal.sum-sum-requires
 sum-sum-requires c =
     let l = c.loop-j in
     let n = suc c.args.v in
     let z = c.args.z in
-    let e = power-next n z l.j l.invariant.1 c.product-square.ensures c.product-power.ensures in (
-      sum_held c.requires l.j l.invariant.0 (ap (λ (s : Powers). s.sum) l.invariant.1),
-      quotient-held c.requires (l.j + 1) (omega arith) (quotient-next n z l.j l.invariant.1 e c.share.ensures),
+    let e = power-next n z l.j l.invariant c.product-square.ensures c.product-power.ensures in (
+      sum_held c.requires l.j l.auto.j-end (ap (λ (s : Powers). s.sum) l.invariant),
+      quotient-held c.requires (l.j + 1) (omega arith) (quotient-next n z l.j l.invariant e c.share.ensures),
     )
-
-pub overflow_add-j-in-loop-j : goal.overflow_add-j-in-loop-j
-overflow_add-j-in-loop-j c = omega arith
-
-pub loop-j-smaller : goal.loop-j-smaller
-loop-j-smaller c = omega arith
 
 pub loop-j-preserved : goal.loop-j-preserved
 loop-j-preserved c =
     let l = c.loop-j in
     let n = suc c.args.v in
     let z = c.args.z in
-    let e = power-next n z l.j l.invariant.1 c.product-square.ensures c.product-power.ensures in
-    let f = sum_next n z l.j l.invariant.1 (quotient-next n z l.j l.invariant.1 e c.share.ensures) c.sum-sum.ensures in
-    (omega arith, λ i. record { power = e i; sum = f i })
+    let e = power-next n z l.j l.invariant c.product-square.ensures c.product-power.ensures in
+    let f = sum_next n z l.j l.invariant (quotient-next n z l.j l.invariant e c.share.ensures) c.sum-sum.ensures in
+    (λ i. record { power = e i; sum = f i })
 
 pub share-requires-2 : goal.share-requires-2
 share-requires-2 c =
     let i = c.loop-j.invariant in
     let a = c.requires in
-    (power_held a 20 (le_refl 20) (last-power (suc c.args.v) c.args.z i.0 c.loop-j-test.false i.1), le_refl 20)
+    (power_held a 20 (le_refl 20) (last-power (suc c.args.v) c.args.z c.loop-j.auto.j-end c.loop-j-test.false i), le_refl 20)
 
 pub add_last-total-requires : goal.add_last-total-requires
 add_last-total-requires c =
@@ -76,8 +70,8 @@ add_last-total-requires c =
     let z = c.args.z in
     let n = suc c.args.v in
     let a = c.requires in (
-      sum_held a 20 (le_refl 20) (last_sum n z i.0 l i.1),
-      quotient-held a 20 (le_refl 20) (last-quotient n z i.0 l i.1 c.share-2.ensures),
+      sum_held a 20 (le_refl 20) (last_sum n z c.loop-j.auto.j-end l i),
+      quotient-held a 20 (le_refl 20) (last-quotient n z c.loop-j.auto.j-end l i c.share-2.ensures),
     )
 
 pub whole-requires : goal.whole-requires
@@ -91,7 +85,7 @@ product-requires c =
     let n = suc c.args.v in
     let a = c.requires in (
       held-as c.whole.ensures (whole_held a.held.lo.width 2 (lit≤ tt)),
-      total-held a (total-is n z i.0 l i.1 c.share-2.ensures c.add_last-total.ensures),
+      total-held a (total-is n z c.loop-j.auto.j-end l i c.share-2.ensures c.add_last-total.ensures),
     )
 
 pub returns : goal.returns
@@ -99,5 +93,5 @@ returns c =
     let i = c.loop-j.invariant in
     let l = c.loop-j-test.false in
     let z = c.args.z in
-    answer_is c.requires.held.lo.width z (total-is (suc c.args.v) z i.0 l i.1 c.share-2.ensures c.add_last-total.ensures)
+    answer_is c.requires.held.lo.width z (total-is (suc c.args.v) z c.loop-j.auto.j-end l i c.share-2.ensures c.add_last-total.ensures)
     c.whole.ensures c.product.ensures
