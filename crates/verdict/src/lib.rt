@@ -44,17 +44,16 @@ pub enum Refusal {
     Ceiling,
 }
 
-// What the state sheet answers: the brackets of pressure and of stiffness.
+// What the state sheet hands out.
 #[derive(Clone, Copy)]
-pub enum SheetAnswer {
-    Answered(Ends, Ends),
-    Refused(Refusal),
+pub struct StateSheet {
+    pub pressure: Ends,
+    pub stiffness: Ends,
 }
 
-// What the density check and the pair check answer: accepted with a pressure, refused with nothing, or refused with what did not pass.
+// Why the density check or the pair check says no: refused with nothing, or with what did not pass.
 #[derive(Clone, Copy)]
-pub enum Answer {
-    Accepted(Ends),
+pub enum Rejection {
     Refused(Refusal),
     VapourPressure(Ends),
     PressureGap(Ends),

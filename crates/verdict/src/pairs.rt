@@ -1,12 +1,11 @@
 // The pair check: all numbers but 5 and 12. Liquid and vapour have one temperature, from the triple point on.
-ghost use Rattle.std.specs.Prelude.{◌≡◌, true, ◌&&◌, suc, T};
+ghost use Rattle.std.specs.Prelude.{◌≡◌, Ok, true, ◌&&◌, suc, T};
 ghost use Rattle.sheet.specs.Range.{Width};
 ghost use Rattle.std.specs.Float.Ieee.Scale.{finite};
 ghost use Rattle.doubles.specs.Double.{exact_of};
 ghost use Rattle.doubles.specs.Range.{accepted_density, accepted_tolerance};
 ghost use Rattle.term.specs.Sound.{sound_table};
 ghost use Rattle.equation.specs.Rules.{pressure};
-ghost use Rattle.verdict.specs.declared.Answer.TheVariants.{Accepted};
 ghost use Rattle.verdict.specs.Reading.{AnswerNumbers};
 ghost use Rattle.verdict.specs.Steps.{first_failing};
 ghost use Rattle.verdict.specs.Rules.{handed_out, under_ceiling, on_sides, balance_worked, pair_worked, pair_rest, pair_inputs};
@@ -16,7 +15,7 @@ ghost use Rattle.verdict.specs.Handed.{Handy, WorkablePair};
 use crate::handed::{gap_passes, handed_out, pushes_back, under_ceiling};
 use crate::phases::phase_of;
 use crate::widths::sound_width;
-use crate::{Answer, Refusal, State};
+use crate::{Ends, Refusal, Rejection, State};
 use bracket::Bracket;
 use term::Table;
 
@@ -63,22 +62,28 @@ fn both_under_ceiling(kind: u64, p: Bracket, q: Bracket) -> bool
 }
 
 // 10 and 11, by the brackets of the Gibbs gap and of the two stiffnesses; accepted with the vapour's pressure q.
-fn balanced(gibbs: Bracket, l: Bracket, v: Bracket, gibbs_tolerance: f64, q: Bracket) -> Answer
+fn balanced(
+    gibbs: Bracket,
+    l: Bracket,
+    v: Bracket,
+    gibbs_tolerance: f64,
+    q: Bracket,
+) -> Result<Ends, Rejection>
     requires handy { (Handy gibbs × Handy l) × (Handy v × Handy q) }
     requires tolerance_finite { T (finite gibbs_tolerance) }
-    ensures value { result ≡ first_failing (balance_worked gibbs l v gibbs_tolerance) (Accepted (handed_out q)) }
+    ensures value { result ≡ first_failing (balance_worked gibbs l v gibbs_tolerance) (Ok (handed_out q)) }
     ensures answer_numbers { AnswerNumbers result }
 {
     if !gap_passes(gibbs, gibbs_tolerance) {
-        return Answer::GibbsGap(handed_out(gibbs));
+        return Err(Rejection::GibbsGap(handed_out(gibbs)));
     }
     if !pushes_back(l) {
-        return Answer::Stiffness(handed_out(l));
+        return Err(Rejection::Stiffness(handed_out(l)));
     }
     if !pushes_back(v) {
-        return Answer::Stiffness(handed_out(v));
+        return Err(Rejection::Stiffness(handed_out(v)));
     }
-    Answer::Accepted(handed_out(q))
+    Ok(handed_out(q))
 }
 
 // 8, 21 and 9, by the brackets of the two pressures and of their gap, and what follows.
@@ -92,19 +97,19 @@ pub fn judged(
     v: Bracket,
     pressure_tolerance: f64,
     gibbs_tolerance: f64,
-) -> Answer
+) -> Result<Ends, Rejection>
     requires { (((Handy p × Handy q) × (Handy gap × Handy gibbs)) × (Handy l × Handy v)) × (T (finite pressure_tolerance) × T (finite gibbs_tolerance)) }
-    ensures value { result ≡ first_failing (pair_worked kind p q gap pressure_tolerance (balance_worked gibbs l v gibbs_tolerance)) (Accepted (handed_out q)) }
+    ensures value { result ≡ first_failing (pair_worked kind p q gap pressure_tolerance (balance_worked gibbs l v gibbs_tolerance)) (Ok (handed_out q)) }
     ensures answer_numbers { AnswerNumbers result }
 {
     if !both_under_ceiling(kind, p, q) {
-        return Answer::Refused(Refusal::Ceiling);
+        return Err(Rejection::Refused(Refusal::Ceiling));
     }
     if !pushes_back(q) {
-        return Answer::VapourPressure(handed_out(q));
+        return Err(Rejection::VapourPressure(handed_out(q)));
     }
     if !gap_passes(gap, pressure_tolerance) {
-        return Answer::PressureGap(handed_out(gap));
+        return Err(Rejection::PressureGap(handed_out(gap)));
     }
     balanced(gibbs, l, v, gibbs_tolerance, q)
 }
@@ -119,9 +124,9 @@ fn worked(
     vapour: f64,
     pressure_tolerance: f64,
     gibbs_tolerance: f64,
-) -> Answer
+) -> Result<Ends, Rejection>
     requires { WorkablePair v kind table.now t liquid vapour pressure_tolerance gibbs_tolerance }
-    ensures value { result ≡ first_failing (pair_rest (suc v) kind table.now t liquid vapour pressure_tolerance gibbs_tolerance) (Accepted (handed_out (pressure (suc v) kind table.now (exact_of t) (exact_of vapour)))) }
+    ensures value { result ≡ first_failing (pair_rest (suc v) kind table.now t liquid vapour pressure_tolerance gibbs_tolerance) (Ok (handed_out (pressure (suc v) kind table.now (exact_of t) (exact_of vapour)))) }
     ensures answer_numbers { AnswerNumbers result }
 {
     let l = phase_of(v, kind, table, t, liquid);
@@ -151,22 +156,22 @@ fn screened(
     vapour: f64,
     pressure_tolerance: f64,
     gibbs_tolerance: f64,
-) -> Answer
+) -> Result<Ends, Rejection>
     requires { Width v × (sound_table kind table.now ≡ true) }
-    ensures value { result ≡ first_failing (pair_inputs (suc v) kind table.now t liquid vapour pressure_tolerance gibbs_tolerance) (Accepted (handed_out (pressure (suc v) kind table.now (exact_of t) (exact_of vapour)))) }
+    ensures value { result ≡ first_failing (pair_inputs (suc v) kind table.now t liquid vapour pressure_tolerance gibbs_tolerance) (Ok (handed_out (pressure (suc v) kind table.now (exact_of t) (exact_of vapour)))) }
     ensures answer_numbers { AnswerNumbers result }
 {
     if !doubles::range::accepts_pair_temperature(t) {
-        return Answer::Refused(Refusal::Temperature);
+        return Err(Rejection::Refused(Refusal::Temperature));
     }
     if !accepts_densities(kind, liquid, vapour) {
-        return Answer::Refused(Refusal::Density);
+        return Err(Rejection::Refused(Refusal::Density));
     }
     if !accepts_tolerances(pressure_tolerance, gibbs_tolerance) {
-        return Answer::Refused(Refusal::Tolerance);
+        return Err(Rejection::Refused(Refusal::Tolerance));
     }
     if !on_sides(liquid, vapour) {
-        return Answer::Refused(Refusal::Sides);
+        return Err(Rejection::Refused(Refusal::Sides));
     }
     worked(
         v,
@@ -188,7 +193,7 @@ pub fn pair_check(
     vapour: f64,
     pressure_tolerance: f64,
     gibbs_tolerance: f64,
-) -> Answer
+) -> Result<Ends, Rejection>
     ensures pair_stated { PairStated width kind table.now liquid.temperature liquid.density vapour pressure_tolerance gibbs_tolerance result }
     ensures answer_numbers { AnswerNumbers result }
     ensures table_stays { table.exit.now ≡ table.entry.now }
@@ -196,14 +201,14 @@ pub fn pair_check(
     let t = liquid.temperature;
     let rho = liquid.density;
     if !sound_width(width) {
-        return Answer::Refused(Refusal::Width);
+        return Err(Rejection::Refused(Refusal::Width));
     }
     if !kind::sound_kind(kind) {
-        return Answer::Refused(Refusal::Kind);
+        return Err(Rejection::Refused(Refusal::Kind));
     }
     match term::check_table(kind, table) {
-        Table::Length => Answer::Refused(Refusal::TableLength),
-        Table::Broken(place) => Answer::Refused(Refusal::BrokenTerm(place)),
+        Table::Length => Err(Rejection::Refused(Refusal::TableLength)),
+        Table::Broken(place) => Err(Rejection::Refused(Refusal::BrokenTerm(place))),
         Table::Sound(_) => screened(
             width - 1,
             kind,

@@ -1,13 +1,13 @@
 -- `verdict::pairs::pair_check` meets its contract. Assumes nothing.
+use Rattle.std.specs.Prelude.{Ok}
 use Prim.Native.Nat.{ℕ}
 use mathlib.Core.Path.{refl, sym, ap, ◌∙◌}
 use native.Mathlib.Omega.{arith}
 use Rattle.doubles.specs.Double.{exact_of}
 use Rattle.equation.specs.Rules.{pressure}
 use Rattle.term.proofs.Answers.{answer-sound}
-use Rattle.verdict.specs.declared.Answer.TheVariants.{Accepted, Refused}
 use Rattle.verdict.specs.Steps.{first_failing}
-use Rattle.verdict.specs.Rules.{handed_out, pair_inputs, pair_answer}
+use Rattle.verdict.specs.Rules.{handed_out, pair_inputs, pair_answer, rejected}
 use Rattle.verdict.proofs.Order.{fails-at, on_pass}
 use Rattle.verdict.proofs.Tests.{passed, failed}
 use Rattle.verdict.proofs.HandedOut.{zeros-numbers}
@@ -31,11 +31,11 @@ screened-requires c = ((one_less _ (passed c.sound_width.ensures c.if-not-sound_
 
 pub returns-in-Length : goal.returns-in-Length
 unfolding pair_answer
-returns-in-Length c = record { pair_stated = on_length Refused _ _ _ _ (sym c.check_table.ensures.0 ∙ c.in-Length.is) ∙ sym (on_pass _ _ _ (passed c.sound_width.ensures c.if-not-sound_width.false) ∙ on_pass _ _ _ (passed c.sound_kind.ensures c.if-not-sound_kind.false)); answer_numbers = zeros-numbers; table_stays = refl }
+returns-in-Length c = record { pair_stated = on_length rejected _ _ _ _ (sym c.check_table.ensures.0 ∙ c.in-Length.is) ∙ sym (on_pass _ _ _ (passed c.sound_width.ensures c.if-not-sound_width.false) ∙ on_pass _ _ _ (passed c.sound_kind.ensures c.if-not-sound_kind.false)); answer_numbers = zeros-numbers; table_stays = refl }
 
 pub returns-in-Broken : goal.returns-in-Broken
 unfolding pair_answer
-returns-in-Broken c = record { pair_stated = on_broken Refused _ _ _ _ _ (sym c.check_table.ensures.0 ∙ c.in-Broken.is) ∙ sym (on_pass _ _ _ (passed c.sound_width.ensures c.if-not-sound_width.false) ∙ on_pass _ _ _ (passed c.sound_kind.ensures c.if-not-sound_kind.false)); answer_numbers = zeros-numbers; table_stays = refl }
+returns-in-Broken c = record { pair_stated = on_broken rejected _ _ _ _ _ (sym c.check_table.ensures.0 ∙ c.in-Broken.is) ∙ sym (on_pass _ _ _ (passed c.sound_width.ensures c.if-not-sound_width.false) ∙ on_pass _ _ _ (passed c.sound_kind.ensures c.if-not-sound_kind.false)); answer_numbers = zeros-numbers; table_stays = refl }
 
 pub returns-in-Sound : goal.returns-in-Sound
 unfolding pair_answer
@@ -48,8 +48,8 @@ returns-in-Sound c =
     let vapour = a.vapour in
     let sound = (answer-sound _ _ _ (sym c.check_table.ensures.0 ∙ c.in-Sound.is)).0 in record {
       pair_stated = c.screened.ensures.value
-          ∙ ap (λ (n : ℕ). first_failing (pair_inputs n kind table t a.liquid.density vapour a.pressure_tolerance a.gibbs_tolerance) (Accepted (handed_out (pressure n kind table (exact_of t) (exact_of vapour))))) (one_less a.width p).1
-          ∙ sym (on_pass _ _ _ p ∙ on_pass _ _ _ (passed c.sound_kind.ensures c.if-not-sound_kind.false) ∙ on_sound Refused _ _ _ _ sound);
+          ∙ ap (λ (n : ℕ). first_failing (pair_inputs n kind table t a.liquid.density vapour a.pressure_tolerance a.gibbs_tolerance) (Ok (handed_out (pressure n kind table (exact_of t) (exact_of vapour))))) (one_less a.width p).1
+          ∙ sym (on_pass _ _ _ p ∙ on_pass _ _ _ (passed c.sound_kind.ensures c.if-not-sound_kind.false) ∙ on_sound rejected _ _ _ _ sound);
       answer_numbers = c.screened.ensures.answer_numbers;
       table_stays = refl;
     }

@@ -1,9 +1,9 @@
 -- `verdict::sheets::state_sheet` meets its contract. Assumes nothing.
+use Rattle.std.specs.Prelude.{Err}
 use Prim.Native.Nat.{ℕ}
 use mathlib.Core.Path.{refl, sym, ap, ◌∙◌}
 use native.Mathlib.Omega.{arith}
 use Rattle.term.proofs.Answers.{answer-sound}
-use Rattle.verdict.specs.declared.SheetAnswer.TheVariants.{Refused}
 use Rattle.verdict.specs.Steps.{first_failing}
 use Rattle.verdict.specs.Rules.{state_inputs, state_accepted, state_answer}
 use Rattle.verdict.proofs.Order.{fails-at, on_pass}
@@ -29,11 +29,11 @@ screened-requires c = ((one_less _ (passed c.sound_width.ensures c.if-not-sound_
 
 pub returns-in-Length : goal.returns-in-Length
 unfolding state_answer
-returns-in-Length c = record { state_stated = on_length Refused _ _ _ _ (sym c.check_table.ensures.0 ∙ c.in-Length.is) ∙ sym (on_pass _ _ _ (passed c.sound_width.ensures c.if-not-sound_width.false) ∙ on_pass _ _ _ (passed c.sound_kind.ensures c.if-not-sound_kind.false)); sheet_numbers = (zeros-numbers, zeros-numbers); table_stays = refl }
+returns-in-Length c = record { state_stated = on_length Err _ _ _ _ (sym c.check_table.ensures.0 ∙ c.in-Length.is) ∙ sym (on_pass _ _ _ (passed c.sound_width.ensures c.if-not-sound_width.false) ∙ on_pass _ _ _ (passed c.sound_kind.ensures c.if-not-sound_kind.false)); sheet_numbers = (zeros-numbers, zeros-numbers); table_stays = refl }
 
 pub returns-in-Broken : goal.returns-in-Broken
 unfolding state_answer
-returns-in-Broken c = record { state_stated = on_broken Refused _ _ _ _ _ (sym c.check_table.ensures.0 ∙ c.in-Broken.is) ∙ sym (on_pass _ _ _ (passed c.sound_width.ensures c.if-not-sound_width.false) ∙ on_pass _ _ _ (passed c.sound_kind.ensures c.if-not-sound_kind.false)); sheet_numbers = (zeros-numbers, zeros-numbers); table_stays = refl }
+returns-in-Broken c = record { state_stated = on_broken Err _ _ _ _ _ (sym c.check_table.ensures.0 ∙ c.in-Broken.is) ∙ sym (on_pass _ _ _ (passed c.sound_width.ensures c.if-not-sound_width.false) ∙ on_pass _ _ _ (passed c.sound_kind.ensures c.if-not-sound_kind.false)); sheet_numbers = (zeros-numbers, zeros-numbers); table_stays = refl }
 
 pub returns-in-Sound : goal.returns-in-Sound
 unfolding state_answer
@@ -47,7 +47,7 @@ returns-in-Sound c =
     let sound = (answer-sound _ _ _ (sym c.check_table.ensures.0 ∙ c.in-Sound.is)).0 in record {
       state_stated = c.screened.ensures.value
           ∙ ap (λ (n : ℕ). first_failing (state_inputs n kind table t rho) (state_accepted n kind table t rho)) (one_less a.width p).1
-          ∙ sym (on_pass _ _ _ p ∙ on_pass _ _ _ (passed c.sound_kind.ensures c.if-not-sound_kind.false) ∙ on_sound Refused _ _ _ _ sound);
+          ∙ sym (on_pass _ _ _ p ∙ on_pass _ _ _ (passed c.sound_kind.ensures c.if-not-sound_kind.false) ∙ on_sound Err _ _ _ _ sound);
       sheet_numbers = c.screened.ensures.sheet_numbers;
       table_stays = refl;
     }
