@@ -3,7 +3,7 @@
 
 mod refusal; // refusal.rt: a refusal's number and its place
 
-ghost use Rattle.std.specs.Prelude.{◌≡◌};
+ghost use Rattle.std.specs.Prelude.{◌≡◌, get_or};
 ghost use Rattle.verdict.specs.Reading.{Numbers, AnswerNumbers, SheetNumbers};
 ghost use Rattle.virial.specs.Reading.{CardNumbers};
 ghost use Rattle.reading.specs.Values.{end_values, check_values, sheet_values, card_values};
@@ -70,4 +70,11 @@ pub fn of_card(answer: Result<Card, Refusal>) -> [u64; 8]
         ],
         Err(why) => [refusal::number(why), refusal::place(why), 0, 0, 0, 0, 0, 0],
     }
+}
+
+// The value at a choice, or 0 where there is none.
+pub fn at(values: &[u64], choice: u64) -> u64
+    ensures { result ≡ get_or values.now choice 0 }
+{
+    values.get(choice as usize).copied().unwrap_or(0)
 }
