@@ -11,6 +11,7 @@ pub mod bits;
 mod long;
 mod packer;
 mod plain;
+mod checked;
 pub mod reader;
 mod sound;
 

@@ -1,0 +1,39 @@
+// A sound table: lent bytes that the check let through, with their kind. Who is handed one needs no further check. Assumes nothing.
+ghost use Rattle.std.specs.Prelude.{◌≡◌, true, ◌<◌};
+ghost use Rattle.term.specs.Bounds.{Bounds};
+ghost use Rattle.term.specs.Packed.{count_terms, term_at};
+ghost use Rattle.term.specs.Sound.{sound_table};
+
+use super::Term;
+
+#[derive(Clone, Copy)]
+pub struct Terms<'a> {
+    pub kind: u64,
+    pub bytes: &'a [u8],
+    pub ghost sound: { sound_table kind bytes.now ≡ true },
+}
+
+impl<'a> Terms<'a> {
+    // How many terms there are.
+    pub fn count(self) -> usize
+        ensures { result ≡ count_terms self.entry.kind self.entry.bytes.now }
+    {
+        super::count_terms(self.kind, self.bytes)
+    }
+
+    // The k-th term.
+    pub fn at(self, k: usize) -> Term
+        requires { k < count_terms self.kind self.bytes.now }
+        ensures value { result ≡ term_at self.entry.kind self.entry.bytes.now k }
+        ensures bounds { Bounds result }
+    {
+        super::term_at(self.kind, self.bytes, k)
+    }
+}
+
+pub fn made<'a>(kind: u64, bytes: &'a [u8]) -> Terms<'a>
+    requires { sound_table kind bytes.now ≡ true }
+    ensures { (result.kind ≡ kind) × (result.bytes ≡ bytes.entry) }
+{
+    Terms { kind, bytes }
+}
