@@ -63,10 +63,8 @@ pub fn sums_of(v: u64, kind: u64, table: &[u8], t: f64, rho: f64) -> Sums
     let tau = inputs::tau(v, t);
     let count = term::count_terms(kind, table);
     let mut s = no_sums(v);
-    let mut i: usize = 0;
-    while i < count {
+    for i in 0..count {
         s = add_term(v, kind, table, i, delta, tau, s);
-        i += 1;
     }
     s
 }

@@ -6,7 +6,4 @@ use Rattle.equation.specs.Rules.{sums_first}
 use Rattle.equation.proofs.table.sums_of.Given as goal
 
 abbrev pub invariant-loop-i : goal.invariant-loop-i
-invariant-loop-i l = (l.i ≤ count_terms l.kind l.table) × (l.s ≡ sums_first (suc l.v) (term_at l.kind l.table) l.delta l.tau l.i)
-
-abbrev pub decreases-loop-i : goal.decreases-loop-i
-decreases-loop-i l = count_terms l.kind l.table - l.i
+invariant-loop-i l = l.s ≡ sums_first (suc l.v) (term_at l.kind l.table) l.delta l.tau l.i
