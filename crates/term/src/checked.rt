@@ -7,13 +7,13 @@ ghost use Rattle.term.specs.Sound.{sound_table};
 use super::Term;
 
 #[derive(Clone, Copy)]
-pub struct Terms<'a> {
+pub struct SoundTable<'a> {
     pub kind: u64,
     pub bytes: &'a [u8],
     pub ghost sound: { sound_table kind bytes.now ≡ true },
 }
 
-impl<'a> Terms<'a> {
+impl<'a> SoundTable<'a> {
     // How many terms there are.
     pub fn count(self) -> usize
         ensures { result ≡ count_terms self.entry.kind self.entry.bytes.now }
@@ -31,9 +31,9 @@ impl<'a> Terms<'a> {
     }
 }
 
-pub fn made<'a>(kind: u64, bytes: &'a [u8]) -> Terms<'a>
+pub fn made<'a>(kind: u64, bytes: &'a [u8]) -> SoundTable<'a>
     requires { sound_table kind bytes.now ≡ true }
     ensures { (result.kind ≡ kind) × (result.bytes ≡ bytes.entry) }
 {
-    Terms { kind, bytes }
+    SoundTable { kind, bytes }
 }

@@ -15,6 +15,7 @@ mod checked;
 pub mod reader;
 mod sound;
 
+pub use checked::SoundTable;
 pub use packer::{put_long, put_term};
 pub use plain::plain_factor;
 pub use sound::{sound_length, sound_term};

@@ -1,8 +1,8 @@
--- `term::checked::Terms::at` meets its contract: a sound table's terms lie within it. Assumes nothing.
+-- `term::checked::SoundTable::at` meets its contract: a sound table's terms lie within it. Assumes nothing.
 use mathlib.Core.Path.{sym, subst}
 use Rattle.term.specs.Bounds.{Bounds}
 use Rattle.term.proofs.Answers.{sound-bounds, sound-reach}
-use Rattle.term.proofs.checked.Terms.at.Goals as goal
+use Rattle.term.proofs.checked.SoundTable.at.Goals as goal
 
 pub term_at-requires : goal.term_at-requires
 term_at-requires c =
