@@ -1,10 +1,10 @@
 // A sound table: lent bytes that the check let through, with their kind. Who is handed one needs no further check. Assumes nothing.
-ghost use Rattle.std.specs.Prelude.{◌≡◌, true, ◌<◌};
+ghost use Rattle.std.specs.Prelude.{◌≡◌, true, ◌<◌, MatchResult};
 ghost use Rattle.term.specs.Bounds.{Bounds};
 ghost use Rattle.term.specs.Packed.{count_terms, term_at};
 ghost use Rattle.term.specs.Sound.{sound_table};
 
-use super::Term;
+use super::{Fault, Term};
 
 #[derive(Clone, Copy)]
 pub struct SoundTable<'a> {
@@ -14,6 +14,17 @@ pub struct SoundTable<'a> {
 }
 
 impl<'a> SoundTable<'a> {
+    ghost use Rattle.term.specs.Sound.{table_answer};
+    ghost use Rattle.std.specs.Prelude.{Err};
+
+    // The bytes, if the check finds no fault.
+    pub fn check(kind: u64, bytes: &'a [u8]) -> Result<Self, Fault>
+        ensures { MatchResult result (λ table. (table.kind ≡ kind) × (table.bytes ≡ bytes.entry)) (λ fault. table_answer kind bytes.now ≡ Err fault) }
+    {
+        super::check_table(kind, bytes)?;
+        Ok(SoundTable { kind, bytes })
+    }
+
     // How many terms there are.
     pub fn count(self) -> usize
         ensures { result ≡ count_terms self.entry.kind self.entry.bytes.now }
@@ -29,11 +40,4 @@ impl<'a> SoundTable<'a> {
     {
         super::term_at(self.kind, self.bytes, k)
     }
-}
-
-pub fn made<'a>(kind: u64, bytes: &'a [u8]) -> SoundTable<'a>
-    requires { sound_table kind bytes.now ≡ true }
-    ensures { (result.kind ≡ kind) × (result.bytes ≡ bytes.entry) }
-{
-    SoundTable { kind, bytes }
 }

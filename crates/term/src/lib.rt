@@ -8,10 +8,10 @@ ghost use Rattle.term.specs.Packed.{term_at, spare_at, count_terms};
 ghost use Rattle.term.specs.Sound.{sound_at, first_broken, table_answer};
 
 pub mod bits;
+mod checked;
 mod long;
 mod packer;
 mod plain;
-mod checked;
 pub mod reader;
 mod sound;
 
