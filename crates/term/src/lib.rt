@@ -79,17 +79,19 @@ fn sound_at(kind: u64, table: &[u8], k: usize) -> bool
     sound_term(kind, term_at(kind, table, k)) && spare_at(kind, table, k) == 0
 }
 
-// The place of the first broken term, counted from 1.
+// The place of the first broken term, counted from 1: the loop over the terms yields it by break.
 fn first_broken(kind: u64, table: &[u8]) -> Option<usize>
     requires { length table.now ≤ 768 }
     ensures { MatchOption result (first_broken kind table.now ≡ 0) (λ place. (first_broken kind table.now ≡ place) × (0 < place)) }
 {
-    for k in 0..count_terms(kind, table) {
-        if !sound_at(kind, table, k) {
-            return Some(k + 1);
+    'terms: {
+        for k in 0..count_terms(kind, table) {
+            if !sound_at(kind, table, k) {
+                break 'terms Some(k + 1);
+            }
         }
+        None
     }
-    None
 }
 
 // The whole table: its length, then its terms. Answers their count.
