@@ -1,13 +1,15 @@
 -- The answers by document 01's table of numbers ("Verdicts"): the checks of each call, in the order of the numbers, with what each hands out
 -- where it fails; 19, first of all, 29, right behind it, and the pair check's 21 are document 02's (d, h, f). w is the width, the count of bits
 -- of the sheet numbers; kind is the kind of table, with limits of its own (kind/specs/Kind.antt). Assumes nothing.
-use Rattle.std.specs.Prelude.{ℕ, Bool, not, ◌&&◌, ◌||◌, List, [], ◌∷◌, length, eqb, Float, Ok, Err}
+use Rattle.std.specs.Prelude.{ℕ, Bool, not, ◌&&◌, ◌||◌, List, [], ◌∷◌, length, eqb, Float, Option, Some, None, Ok, Err}
 use Rattle.exact.specs.Fraction.{nat, leq}
 use Rattle.kind.specs.Kind.{sound_kind, highest}
 use Rattle.sheet.specs.Number.{value}
 use Rattle.doubles.specs.Double.{exact_of}
 use Rattle.doubles.specs.Handed.{double_of}
 use Rattle.doubles.specs.Range.{accepted_temperature, accepted_pair_temperature, accepted_density, accepted_target, accepted_tolerance, within_tolerance}
+use Rattle.term.specs.declared.Fault.{Fault}
+use Rattle.term.specs.declared.Fault.TheVariants.{Length, Broken}
 use Rattle.term.specs.Sound.{sound_length, first_broken}
 use Rattle.bracket.specs.declared.Bracket.{Bracket}
 use Rattle.equation.specs.Rules.{pressure, stiffness, gibbs_gap, target_gap, pressure_gap}
@@ -60,6 +62,15 @@ table_steps refused kind table rest =
 -- what every call asks first: 19, 29, 1 and 2
 abbrev pub first_steps : {A : Type 0} → (Refusal → A) → (w kind : ℕ) → List ℕ → List (Step A) → List (Step A)
 first_steps refused w kind table rest = width_step refused w (kind_step refused kind (table_steps refused kind table rest))
+
+-- the first of them that refuses
+unfoldable pub first_refusal : (w kind : ℕ) → List ℕ → Option Refusal
+first_refusal w kind table = first_failing (first_steps Some w kind table []) None
+
+-- what the check of a table finds wrong, as a refusal
+abbrev pub fault_refusal : Fault → Refusal
+fault_refusal Length = TableLength
+fault_refusal (Broken place) = BrokenTerm place
 
 -- ---- the state sheet: 19, 29, 1 to 4 and 8
 

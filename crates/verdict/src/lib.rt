@@ -3,6 +3,8 @@
 #![tactic(auto)]
 
 mod widths; // widths.rt: which widths there are
+mod refusals; // refusals.rt: a test as a step that may refuse, and what a refusal becomes
+mod settings; // settings.rt: a width and a sound table
 mod handed; // handed.rt: ends handed out, and their tests
 pub mod phases; // phases.rt: one phase in one pass over the table
 pub mod densities; // densities.rt: the density check
@@ -12,6 +14,7 @@ pub mod sheets; // sheets.rt: the state sheet
 pub use densities::density_check;
 pub use handed::handed_out;
 pub use pairs::pair_check;
+pub use settings::Setting;
 pub use sheets::state_sheet;
 pub use widths::sound_width;
 
