@@ -7,10 +7,10 @@ ghost use Rattle.doubles.specs.Range.{accepted_temperature, accepted_density};
 ghost use Rattle.term.specs.Packed.{term_at, count_terms};
 ghost use Rattle.term.specs.Sound.{sound_table};
 ghost use Rattle.equation.specs.Rules.{addends, plus_each, no_sums, sums};
-ghost use Rattle.equation.specs.Ranged.{DeltaIn, TauIn, AllHeld};
+ghost use Rattle.equation.specs.Ranged.{ReducedIn, AllHeld};
 
 use crate::addends::addends;
-use crate::{Sums, inputs};
+use crate::{Reduced, Sums, inputs};
 use bracket::Bracket;
 
 pub fn no_sums(v: u64) -> Sums
@@ -36,21 +36,13 @@ fn plus_each(v: u64, s: Sums, a: Sums) -> Sums
 }
 
 // The sums with the addends of the k-th term.
-fn add_term(
-    v: u64,
-    kind: u64,
-    table: &[u8],
-    k: usize,
-    delta: Bracket,
-    tau: Bracket,
-    s: Sums,
-) -> Sums
+fn add_term(v: u64, kind: u64, table: &[u8], k: usize, x: Reduced, s: Sums) -> Sums
     requires table_sound { (sound_table kind table.now ≡ true) × (k < count_terms kind table.now) }
-    requires delta_in { DeltaIn v delta × TauIn v tau × AllHeld v s }
-    ensures { result ≡ plus_each (suc v) s (addends (suc v) (term_at kind table.now k) delta tau) }
+    requires reduced_in { ReducedIn v x × AllHeld v s }
+    ensures { result ≡ plus_each (suc v) s (addends (suc v) (term_at kind table.now k) x.delta x.tau) }
 {
     let term = term::term_at(kind, table, k);
-    let a = addends(v, term, delta, tau);
+    let a = addends(v, term, x);
     plus_each(v, s, a)
 }
 
@@ -59,12 +51,14 @@ pub fn sums_of(v: u64, kind: u64, table: &[u8], t: f64, rho: f64) -> Sums
     requires width { Width v × T (accepted_temperature widest t) × T (accepted_density widest rho) }
     ensures { result ≡ sums (suc v) kind table.now (exact_of t) (exact_of rho) }
 {
-    let delta = inputs::delta(v, rho);
-    let tau = inputs::tau(v, t);
+    let x = Reduced {
+        delta: inputs::delta(v, rho),
+        tau: inputs::tau(v, t),
+    };
     let count = term::count_terms(kind, table);
     let mut s = no_sums(v);
     for i in 0..count {
-        s = add_term(v, kind, table, i, delta, tau, s);
+        s = add_term(v, kind, table, i, x, s);
     }
     s
 }
