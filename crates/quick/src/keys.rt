@@ -21,11 +21,8 @@ pub fn keys(list: [Term; 64], count: usize, weighed: bool) -> [u64; 64]
     ensures { KeysTo weighed list count result }
 {
     let mut keys = [0u64; 64];
-    let mut i: usize = 0;
-    while i < count {
-        let term = list[i];
-        keys[i] = key(term, weighed);
-        i += 1;
+    for i in 0..count {
+        keys[i] = key(list[i], weighed);
     }
     keys
 }
@@ -36,12 +33,8 @@ pub fn first_like(keys: &[u64], k: usize) -> usize
     ensures { FirstLike keys.now k result }
 {
     let key = keys[k];
-    let mut i: usize = 0;
-    while i < k {
-        if keys[i] == key {
-            return i;
-        }
-        i += 1;
-    }
-    k
+    keys[..k]
+        .iter()
+        .position(|other| *other == key)
+        .unwrap_or(k)
 }

@@ -9,19 +9,16 @@ use Rattle.quick.proofs.Filled.{filled_more}
 use Rattle.quick.proofs.keys.keys.Goals as goal
 
 pub loop-i-init : goal.loop-i-init
-loop-i-init c = (omega arith, refl, λ k l. absurd (omega arith))
-
-pub key-requires : goal.key-requires
-key-requires c = c.requires.0 _ c.loop-i-test.true
+loop-i-init c = (refl, λ k l. absurd (omega arith))
 
 pub loop-i-preserved : goal.loop-i-preserved
 loop-i-preserved c =
-    let t = c.loop-i-test.true in
-    let most = c.requires.1 in
-    (omega arith, length-set c.loop-i.keys c.loop-i.i _ ∙ c.loop-i.invariant.1, filled_more {A = ℕ} 0 (λ k key. key ≡ key_of c.args.weighed (get_or c.args.list k blank)) c.loop-i.keys c.loop-i.i c.key.result (omega (arith, c.loop-i.invariant.1)) c.loop-i.invariant.2 c.key.ensures)
+    let most = c.requires.1 in (
+      length-set c.loop-i.keys c.loop-i.i _ ∙ c.loop-i.invariant.0,
+      filled_more {A = ℕ} 0 (λ k key. key ≡ key_of c.args.weighed (get_or c.args.list k blank)) c.loop-i.keys c.loop-i.i c.key.result (omega (arith, c.loop-i.invariant.0)) c.loop-i.invariant.1 c.key.ensures,
+    )
 
 pub returns : goal.returns
 returns c =
-    let t = c.loop-i-test.false in
     let all : c.loop-i.i ≡ c.args.count = omega arith in
-    rw (← all) c.loop-i.invariant.2
+    rw (← all) c.loop-i.invariant.1
