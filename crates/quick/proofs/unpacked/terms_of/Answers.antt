@@ -1,10 +1,7 @@
 -- `quick::unpacked::terms_of` meets its contract: after i turns the first i terms stand in front of blanks. Assumes nothing.
 use mathlib.Core.Path.{◌≡◌, refl, ap, ◌∙◌}
-use Prim.Native.Nat.{◌+◌, ◌*◌, ◌≤◌}
-use native.Mathlib.Nat.{mul-le-mul_left}
 use native.Mathlib.Omega.{arith}
 use lib.ListN.{set, replicate, length-set}
-use Rattle.kind.specs.Kind.{term_bytes}
 use Rattle.term.specs.Packed.{terms_from}
 use Rattle.quick.specs.Unpacked.{blank}
 use Rattle.quick.proofs.Listed.{one-term, drop_blanks}
@@ -13,13 +10,6 @@ use Rattle.quick.proofs.unpacked.terms_of.Goals as goal
 pub loop-i-init : goal.loop-i-init
 unfolding terms_from
 loop-i-init c = (refl, refl)
-
-pub term_at-requires : goal.term_at-requires
-term_at-requires c =
-    let a = c.args in
-    let p = c.requires in
-    let more : term_bytes a.kind * (c.loop-i.i + 1) ≤ term_bytes a.kind * a.count = mul-le-mul_left (term_bytes a.kind) (omega arith) in
-    (omega (arith, more, p.inside), p.short (omega arith))
 
 pub loop-i-preserved : goal.loop-i-preserved
 loop-i-preserved c =
