@@ -1,6 +1,6 @@
 // What a table gives at one temperature, made ready once for every density: each term with its coefficient, its power of tau, and the first
 // places of the terms that share its exponential and its weights.
-ghost use Rattle.std.specs.Prelude.{◌≡◌, true, suc, ◌≤◌, T, get_or};
+ghost use Rattle.std.specs.Prelude.{◌≡◌, true, suc, ◌≤◌, T, length, get_or};
 ghost use Rattle.sheet.specs.Range.{Width};
 ghost use Rattle.kind.specs.Kind.{widest};
 ghost use Rattle.doubles.specs.Range.{accepted_temperature};
@@ -11,7 +11,7 @@ ghost use Rattle.quick.specs.Powers.{nothing};
 ghost use Rattle.quick.specs.Unpacked.{blank, Holds, AllBounds};
 ghost use Rattle.quick.specs.Ready.{Farther, Reaches, RowsTo, ReadyFor};
 
-use crate::keys::{first_like, keys};
+use crate::keys::{first_like, keys_of};
 use crate::powers::{NOTHING, powers};
 use crate::unpacked::BLANK;
 use bracket::Bracket;
@@ -60,13 +60,13 @@ fn farther(reach: Reach, term: Term) -> Reach
     }
 }
 
-fn reach_of(list: [Term; 64], count: usize) -> Reach
-    requires { AllBounds list count × (count ≤ 64) }
-    ensures { Reaches list count result }
+fn reach_of(terms: &[Term]) -> Reach
+    requires { AllBounds terms.now (length terms.now) }
+    ensures { Reaches terms.now (length terms.now) result }
 {
     let mut reach = Reach { t: 0, d: 0 };
-    for i in 0..count {
-        reach = farther(reach, list[i]);
+    for term in terms {
+        reach = farther(reach, *term);
     }
     reach
 }
@@ -85,21 +85,18 @@ fn row_of(v: u64, term: Term, tau: Bracket, same: usize, like: usize) -> Row
     }
 }
 
-// The rows of a list's first terms, by the powers of tau.
-fn rows_of(v: u64, list: [Term; 64], count: usize, taus: [Bracket; 64]) -> [Row; 64]
-    requires { Width v × AllBounds list count × (count ≤ 64) }
-    ensures { RowsTo (suc v) (λ k. get_or list k blank) (λ t. get_or taus t nothing) result count }
+// The rows of some terms, by the powers of tau.
+fn rows_of(v: u64, terms: &[Term], taus: &[Bracket; 64]) -> [Row; 64]
+    requires { Width v × AllBounds terms.now (length terms.now) × (length terms.now ≤ 64) }
+    ensures { RowsTo (suc v) (λ k. get_or terms.now k blank) (λ t. get_or taus.now t nothing) result (length terms.now) }
 {
-    let sames = keys(list, count, false);
-    let likes = keys(list, count, true);
+    let keys = keys_of(terms);
     let mut rows = [NO_ROW; 64];
-    for i in 0..count {
-        let term = list[i];
+    for (i, term) in terms.iter().enumerate() {
         let t = term.t as usize;
-        let power = taus[t];
-        let same = first_like(&sames, i);
-        let like = first_like(&likes, i);
-        rows[i] = row_of(v, term, power, same, like);
+        let same = first_like(&keys.same, i);
+        let like = first_like(&keys.like, i);
+        rows[i] = row_of(v, *term, taus[t], same, like);
     }
     rows
 }
@@ -110,11 +107,10 @@ pub fn made_ready(v: u64, kind: u64, table: &[u8], list: [Term; 64], t: f64) -> 
     requires t_accepted { T (accepted_temperature widest t) }
     ensures { ReadyFor (suc v) kind table.now result × (result.t ≡ t) }
 {
-    let count = term::count_terms(kind, table);
-    let far = reach_of(list, count);
-    let tau = equation::tau(v, t);
-    let taus = powers(v, tau, far.t);
-    let rows = rows_of(v, list, count, taus);
+    let terms = &list[..term::count_terms(kind, table)];
+    let far = reach_of(terms);
+    let taus = powers(v, equation::tau(v, t), far.t);
+    let rows = rows_of(v, terms, &taus);
     Ready {
         t,
         rows,

@@ -2,5 +2,5 @@
 use Rattle.quick.specs.Ready.{Reaches}
 use Rattle.quick.proofs.ready.reach_of.Given as goal
 
-abbrev pub invariant-loop-i : goal.invariant-loop-i
-invariant-loop-i l = Reaches l.list l.i l.reach
+abbrev pub invariant-loop-term : goal.invariant-loop-term
+invariant-loop-term l = Reaches l.terms l.term-index l.reach

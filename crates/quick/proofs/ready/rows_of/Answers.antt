@@ -2,7 +2,7 @@
 use mathlib.Core.Path.{◌∙◌}
 use Prim.Native.Nat.{suc}
 use native.Mathlib.Omega.{arith}
-use lib.ListN.{get_or, length-set}
+use lib.ListN.{length, get_or, length-set}
 use Rattle.quick.specs.Unpacked.{blank}
 use Rattle.quick.specs.Powers.{nothing}
 use Rattle.quick.specs.Ready.{no_row, RowFor}
@@ -13,11 +13,12 @@ use Rattle.quick.proofs.ready.rows_of.Goals as goal
 pub loop-i-preserved : goal.loop-i-preserved
 loop-i-preserved c =
     let a = c.args in
-    let i = c.loop-i.i in
+    let l = c.loop-i in
     let most = c.requires.2 in
+    let keys = c.keys_of-keys in
     let row =
-    row_for (suc a.v) a.list a.count c.requires.1 a.taus c.keys-sames.result c.keys-likes.result
-    c.keys-sames.ensures c.keys-likes.ensures i (omega arith) _ _ c.first_like-same.ensures c.first_like-like.ensures c.row_of.ensures in (
-      length-set c.loop-i.rows i c.row_of.result ∙ c.loop-i.invariant.0,
-      filled_more no_row (RowFor (suc a.v) (λ k. get_or a.list k blank) (λ t. get_or a.taus t nothing)) c.loop-i.rows i c.row_of.result (omega (arith, c.loop-i.invariant.0)) c.loop-i.invariant.1 row,
+    row_for (suc a.v) a.terms.now (length a.terms.now) c.requires.1 a.taus.now keys.result.same keys.result.like
+    keys.ensures.0 keys.ensures.1 l.i (omega arith) _ _ c.first_like-same.ensures c.first_like-like.ensures c.row_of.ensures in (
+      length-set l.rows l.i c.row_of.result ∙ l.invariant.0,
+      filled_more no_row (RowFor (suc a.v) (λ k. get_or a.terms.now k blank) (λ t. get_or a.taus.now t nothing)) l.rows l.i c.row_of.result (omega (arith, l.invariant.0)) l.invariant.1 row,
     )
