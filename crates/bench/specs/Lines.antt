@@ -1,7 +1,6 @@
 -- The lines of the bench program (01, "The bench program"). Assumes nothing.
 use Rattle.std.specs.Prelude.{ℕ, List}
-use Rattle.verdict.specs.declared.Answer.{Answer}
-use Rattle.verdict.specs.Reading.{number, place, handed}
+use Rattle.verdict.specs.Reading.{Answer, number, place, handed}
 use Rattle.verdict.specs.Rules.{pair_answer}
 use Rattle.reading.specs.Values.{bits}
 use Rattle.line.specs.declared.proposal.Proposal.{Proposal}

@@ -3,11 +3,8 @@
 use Prim.Native.Nat.{ℕ, ◌≤◌}
 use mathlib.Core.Path.{◌≡◌, refl}
 use lib.ListN.{get_or-eq_default}
-use Rattle.verdict.specs.declared.Answer.{Answer}
-use Rattle.verdict.specs.declared.SheetAnswer.{SheetAnswer}
-use Rattle.verdict.specs.Reading.{number, place, handed, sheet_number, sheet_place, sheet_pressure, sheet_stiffness}
-use Rattle.virial.specs.declared.Card.{Card}
-use Rattle.virial.specs.Reading.{card_number, card_place, card_second, card_third, card_pressure}
+use Rattle.verdict.specs.Reading.{SheetAnswer, Answer, number, place, handed, sheet_number, sheet_place, sheet_pressure, sheet_stiffness}
+use Rattle.virial.specs.Reading.{CardAnswer, card_number, card_place, card_second, card_third, card_pressure}
 use Rattle.reading.specs.Values.{bits, check_values, sheet_values, card_values}
 use Rattle.panel.specs.Chosen.{chosen, sheet_chosen, card_chosen}
 
@@ -31,15 +28,15 @@ pub sheet_choices : (answer : SheetAnswer)
 unfolding sheet_values
 sheet_choices answer = (refl, refl, refl, refl, refl, refl, λ choice h. get_or-eq_default (sheet_values answer) 0 h)
 
-pub card_choices : (card : Card)
-    → (card_chosen card 0 ≡ card_number card)
-    × (card_chosen card 1 ≡ card_place card)
-    × (card_chosen card 2 ≡ bits (card_second card).lower)
-    × (card_chosen card 3 ≡ bits (card_second card).upper)
-    × (card_chosen card 4 ≡ bits (card_third card).lower)
-    × (card_chosen card 5 ≡ bits (card_third card).upper)
-    × (card_chosen card 6 ≡ bits (card_pressure card).lower)
-    × (card_chosen card 7 ≡ bits (card_pressure card).upper)
-    × ((choice : ℕ) → 8 ≤ choice → card_chosen card choice ≡ 0)
+pub card_choices : (answer : CardAnswer)
+    → (card_chosen answer 0 ≡ card_number answer)
+    × (card_chosen answer 1 ≡ card_place answer)
+    × (card_chosen answer 2 ≡ bits (card_second answer).lower)
+    × (card_chosen answer 3 ≡ bits (card_second answer).upper)
+    × (card_chosen answer 4 ≡ bits (card_third answer).lower)
+    × (card_chosen answer 5 ≡ bits (card_third answer).upper)
+    × (card_chosen answer 6 ≡ bits (card_pressure answer).lower)
+    × (card_chosen answer 7 ≡ bits (card_pressure answer).upper)
+    × ((choice : ℕ) → 8 ≤ choice → card_chosen answer choice ≡ 0)
 unfolding card_values
-card_choices card = (refl, refl, refl, refl, refl, refl, refl, refl, λ choice h. get_or-eq_default (card_values card) 0 h)
+card_choices answer = (refl, refl, refl, refl, refl, refl, refl, refl, λ choice h. get_or-eq_default (card_values answer) 0 h)

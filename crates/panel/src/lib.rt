@@ -10,10 +10,11 @@ mod converted;
 mod slice;
 mod typed;
 
-ghost use Rattle.std.specs.Prelude.{◌≡◌, get_or};
+ghost use Rattle.std.specs.Prelude.{◌≡◌};
 ghost use Rattle.verdict.specs.Rules.{state_answer, density_answer, pair_answer};
 ghost use Rattle.panel.specs.Chosen.{chosen, sheet_chosen};
 
+use reading::at;
 use verdict::State;
 
 // The state sheet: 2 and 3 the ends of pressure, 4 and 5 those of stiffness.
@@ -92,15 +93,4 @@ pub extern "C" fn wb_pair(
     );
     let values = reading::of_check(answer);
     at(&values, choice)
-}
-
-// The value at a choice, or 0 where there is none.
-fn at(values: &[u64], choice: u64) -> u64
-    ensures { result ≡ get_or values.now choice 0 }
-{
-    if choice < values.len() as u64 {
-        values[choice as usize]
-    } else {
-        0
-    }
 }

@@ -8,6 +8,7 @@ ghost use Rattle.std.specs.Prelude.{◌≡◌, get_or};
 ghost use Rattle.verdict.specs.Rules.{state_answer, pair_answer};
 ghost use Rattle.reading.specs.Values.{check_values, sheet_values};
 
+use reading::at;
 use verdict::State;
 
 #[unsafe(no_mangle)]
@@ -60,15 +61,4 @@ pub extern "C" fn mark_plain_pair(
     );
     let values = reading::of_check(answer);
     at(&values, choice)
-}
-
-// The value at a choice, or 0 where there is none.
-fn at(values: &[u64], choice: u64) -> u64
-    ensures { result ≡ get_or values.now choice 0 }
-{
-    if choice < values.len() as u64 {
-        values[choice as usize]
-    } else {
-        0
-    }
 }

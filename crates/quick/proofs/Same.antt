@@ -1,5 +1,6 @@
 -- The quick engine's promises: the plain engine's answer but for 20, and exactly when 20; the slice afterwards, by the number; both settled;
 -- and both halves of demand 3, the second with room for the table's terms. Assumes nothing.
+use Rattle.std.specs.Prelude.{Ok, Err}
 use Prim.Native.Nat.{ℕ, zero, suc, ◌≤◌, ◌<◌}
 use mathlib.Core.Path.{◌≡◌, refl, sym, ap, subst, ◌∙◌}
 use mathlib.Core.Bool.{Bool, true, false, cond}
@@ -16,12 +17,9 @@ use Rattle.term.specs.Packed.{count_terms, terms_from, terms}
 use Rattle.term.specs.Sound.{sound_length, first_broken}
 use Rattle.verdict.specs.declared.Refusal.{Refusal}
 use Rattle.verdict.specs.declared.Refusal.TheVariants.{Width, Kind, TableLength, BrokenTerm, Temperature, Density, Target, Tolerance, Sides, Ceiling}
-use Rattle.verdict.specs.declared.SheetAnswer.{SheetAnswer}
-use Rattle.verdict.specs.declared.SheetAnswer.TheVariants as sheet
-use Rattle.verdict.specs.declared.Answer.{Answer}
-use Rattle.verdict.specs.declared.Answer.TheVariants.{Accepted, Refused, VapourPressure, PressureGap, GibbsGap, Stiffness}
+use Rattle.verdict.specs.declared.Rejection.TheVariants.{Refused, VapourPressure, PressureGap, GibbsGap, Stiffness}
 use Rattle.verdict.specs.declared.State.{State}
-use Rattle.verdict.specs.Reading.{number, sheet_number, refusal_number}
+use Rattle.verdict.specs.Reading.{SheetAnswer, Answer, number, sheet_number, refusal_number}
 use Rattle.verdict.specs.Rules.{sound_width, state_answer, density_answer, pair_answer}
 use Rattle.verdict.specs.Balance.{SoundPair, Balanced, BalancedBeyond, SoundDensity, OnTarget, OnTargetBeyond}
 use Rattle.verdict.proofs.Demand1.{state_19, state_29, state_1, state_2, density_19, density_29, density_1, density_2, pair-19, pair-29, pair-1, pair-2}
@@ -50,16 +48,16 @@ refusal_not Sides e = omega (arith, e)
 refusal_not Ceiling e = omega (arith, e)
 
 sheet_not : (answer : SheetAnswer) → sheet_number answer ≡ 20 → ⊥
-sheet_not (sheet.Answered pressure stiffness) e = omega (arith, e)
-sheet_not (sheet.Refused why) e = refusal_not why e
+sheet_not (Ok sheet) e = omega (arith, e)
+sheet_not (Err why) e = refusal_not why e
 
 check_not : (answer : Answer) → number answer ≡ 20 → ⊥
-check_not (Accepted ends) e = omega (arith, e)
-check_not (Refused why) e = refusal_not why e
-check_not (VapourPressure ends) e = omega (arith, e)
-check_not (PressureGap ends) e = omega (arith, e)
-check_not (GibbsGap ends) e = omega (arith, e)
-check_not (Stiffness ends) e = omega (arith, e)
+check_not (Ok ends) e = omega (arith, e)
+check_not (Err (Refused why)) e = refusal_not why e
+check_not (Err (VapourPressure ends)) e = omega (arith, e)
+check_not (Err (PressureGap ends)) e = omega (arith, e)
+check_not (Err (GibbsGap ends)) e = omega (arith, e)
+check_not (Err (Stiffness ends)) e = omega (arith, e)
 
 plain_not : (w kind : ℕ) (table : List ℕ) (asked : Question) → reply_number (plain_reply w kind table asked) ≡ 20 → ⊥
 unfolding plain_reply

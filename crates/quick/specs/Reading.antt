@@ -1,11 +1,8 @@
 -- How a reply is read: the number, the place and the ends; 20 is document 02's, e, and the others are the plain engine's. Assumes nothing.
-use Rattle.std.specs.Prelude.{ℕ}
-use Rattle.verdict.specs.Reading.{AnswerNumbers, SheetNumbers, number, sheet_number}
+use Rattle.std.specs.Prelude.{ℕ, Err}
 use Rattle.verdict.specs.declared.Refusal.TheVariants.{Width}
-use Rattle.verdict.specs.declared.SheetAnswer.{SheetAnswer}
-use Rattle.verdict.specs.declared.SheetAnswer.TheVariants as sheet
-use Rattle.verdict.specs.declared.Answer.{Answer}
-use Rattle.verdict.specs.declared.Answer.TheVariants.{Refused}
+use Rattle.verdict.specs.Reading.{SheetAnswer, Answer, AnswerNumbers, SheetNumbers, number, sheet_number}
+use Rattle.verdict.specs.Rules.{rejected}
 use Rattle.quick.specs.declared.Reply.{Reply}
 use Rattle.quick.specs.declared.Reply.TheVariants.{Short, Sheet, Check}
 
@@ -16,13 +13,13 @@ reply_number (Check answer) = number answer
 
 -- the answer that a reply holds; a reply to another question holds none, and is never read for it
 abbrev pub sheet_in : Reply → SheetAnswer
-sheet_in Short = sheet.Refused Width
+sheet_in Short = Err Width
 sheet_in (Sheet answer) = answer
-sheet_in (Check answer) = sheet.Refused Width
+sheet_in (Check answer) = Err Width
 
 abbrev pub check_in : Reply → Answer
-check_in Short = Refused Width
-check_in (Sheet answer) = Refused Width
+check_in Short = rejected Width
+check_in (Sheet answer) = rejected Width
 check_in (Check answer) = answer
 
 -- no end is a NaN

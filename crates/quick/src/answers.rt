@@ -1,10 +1,9 @@
 // The three answers by the quick pass, where width, kind and table are sound. Inputs that 3 to 7 refuse go to the plain engine, which refuses
 // them before it works anything out.
-ghost use Rattle.std.specs.Prelude.{◌≡◌, ◌&&◌, suc, T};
+ghost use Rattle.std.specs.Prelude.{◌≡◌, Ok, ◌&&◌, suc, T};
 ghost use Rattle.doubles.specs.Double.{exact_of};
 ghost use Rattle.doubles.specs.Range.{accepted_temperature, accepted_pair_temperature, accepted_density, accepted_target, accepted_tolerance};
 ghost use Rattle.equation.specs.Rules.{pressure, stiffness, target_gap};
-ghost use Rattle.verdict.specs.declared.Answer.TheVariants.{Accepted};
 ghost use Rattle.verdict.specs.Reading.{AnswerNumbers, SheetNumbers};
 ghost use Rattle.verdict.specs.Steps.{first_failing};
 ghost use Rattle.verdict.specs.Rules.{handed_out, on_sides, state_worked, state_accepted, density_worked, pair_rest};
@@ -19,7 +18,7 @@ use crate::pass::sums_of;
 use crate::ready::{Ready, made_ready};
 use term::Term;
 use verdict::phases::Phase;
-use verdict::{Answer, SheetAnswer, State};
+use verdict::{Ends, Refusal, Rejection, State, StateSheet};
 
 // Whether 3 and 4 pass.
 fn sheet_passes(kind: u64, t: f64, rho: f64) -> bool
@@ -104,9 +103,9 @@ fn density_worked(
     rho: f64,
     target: f64,
     tolerance: f64,
-) -> Answer
+) -> Result<Ends, Rejection>
     requires { (Workable v kind table.now t rho × Holds kind table.now list) × (T (accepted_target kind target) × T (accepted_tolerance tolerance)) }
-    ensures value { result ≡ first_failing (density_worked kind (pressure (suc v) kind table.now (exact_of t) (exact_of rho)) (target_gap (suc v) kind table.now (exact_of t) (exact_of rho) (exact_of target)) (stiffness (suc v) kind table.now (exact_of t) (exact_of rho)) tolerance) (Accepted (handed_out (pressure (suc v) kind table.now (exact_of t) (exact_of rho)))) }
+    ensures value { result ≡ first_failing (density_worked kind (pressure (suc v) kind table.now (exact_of t) (exact_of rho)) (target_gap (suc v) kind table.now (exact_of t) (exact_of rho) (exact_of target)) (stiffness (suc v) kind table.now (exact_of t) (exact_of rho)) tolerance) (Ok (handed_out (pressure (suc v) kind table.now (exact_of t) (exact_of rho)))) }
     ensures answer_numbers { AnswerNumbers result }
 {
     let a = phase_of(v, kind, table, list, t, rho);
@@ -125,9 +124,9 @@ fn pair_worked(
     vapour: f64,
     pressure_tolerance: f64,
     gibbs_tolerance: f64,
-) -> Answer
+) -> Result<Ends, Rejection>
     requires { WorkablePair v kind table.now t liquid vapour pressure_tolerance gibbs_tolerance × Holds kind table.now list }
-    ensures value { result ≡ first_failing (pair_rest (suc v) kind table.now t liquid vapour pressure_tolerance gibbs_tolerance) (Accepted (handed_out (pressure (suc v) kind table.now (exact_of t) (exact_of vapour)))) }
+    ensures value { result ≡ first_failing (pair_rest (suc v) kind table.now t liquid vapour pressure_tolerance gibbs_tolerance) (Ok (handed_out (pressure (suc v) kind table.now (exact_of t) (exact_of vapour)))) }
     ensures answer_numbers { AnswerNumbers result }
 {
     let ready = made_ready(v, kind, table, list, t);
@@ -154,7 +153,7 @@ pub fn state_sheet(
     table: &[u8],
     list: [Term; 64],
     state: State,
-) -> SheetAnswer
+) -> Result<StateSheet, Refusal>
     requires { Sound width kind table.now × Holds kind table.now list }
     ensures { StateStated width kind table.now state.temperature state.density result × SheetNumbers result }
 {
@@ -175,7 +174,7 @@ pub fn density_check(
     state: State,
     target: f64,
     tolerance: f64,
-) -> Answer
+) -> Result<Ends, Rejection>
     requires { Sound width kind table.now × Holds kind table.now list }
     ensures { DensityStated width kind table.now state.temperature state.density target tolerance result × AnswerNumbers result }
 {
@@ -196,7 +195,7 @@ pub fn pair_check(
     vapour: f64,
     pressure_tolerance: f64,
     gibbs_tolerance: f64,
-) -> Answer
+) -> Result<Ends, Rejection>
     requires { Sound width kind table.now × Holds kind table.now list }
     ensures { PairStated width kind table.now liquid.temperature liquid.density vapour pressure_tolerance gibbs_tolerance result × AnswerNumbers result }
 {

@@ -3,7 +3,7 @@
 // Nothing here writes to the lent table.
 #![tactic(auto)]
 
-use verdict::{Answer, SheetAnswer, State};
+use verdict::{Ends, Refusal, Rejection, State, StateSheet};
 
 mod unpacked; // unpacked.rt: a table's terms by value
 mod powers; // powers.rt: the powers of a bracket
@@ -31,6 +31,6 @@ pub enum Question {
 #[derive(Clone, Copy)]
 pub enum Reply {
     Short,
-    Sheet(SheetAnswer),
-    Check(Answer),
+    Sheet(Result<StateSheet, Refusal>),
+    Check(Result<Ends, Rejection>),
 }

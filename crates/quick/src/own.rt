@@ -6,29 +6,29 @@ ghost use Rattle.quick.specs.Reading.{sheet_in, check_in};
 
 use crate::slice::ask_own;
 use crate::{Question, Reply};
-use verdict::{Answer, Refusal, SheetAnswer, State};
+use verdict::{Ends, Refusal, Rejection, State, StateSheet};
 
-fn sheet_in(reply: Reply) -> SheetAnswer
+fn sheet_in(reply: Reply) -> Result<StateSheet, Refusal>
     ensures { result ≡ sheet_in reply }
 {
     match reply {
         Reply::Sheet(answer) => answer,
-        Reply::Short => SheetAnswer::Refused(Refusal::Width),
-        Reply::Check(_) => SheetAnswer::Refused(Refusal::Width),
+        Reply::Short => Err(Refusal::Width),
+        Reply::Check(_) => Err(Refusal::Width),
     }
 }
 
-fn check_in(reply: Reply) -> Answer
+fn check_in(reply: Reply) -> Result<Ends, Rejection>
     ensures { result ≡ check_in reply }
 {
     match reply {
         Reply::Check(answer) => answer,
-        Reply::Short => Answer::Refused(Refusal::Width),
-        Reply::Sheet(_) => Answer::Refused(Refusal::Width),
+        Reply::Short => Err(Rejection::Refused(Refusal::Width)),
+        Reply::Sheet(_) => Err(Rejection::Refused(Refusal::Width)),
     }
 }
 
-pub fn state_sheet(width: u64, kind: u64, table: &[u8], state: State) -> SheetAnswer
+pub fn state_sheet(width: u64, kind: u64, table: &[u8], state: State) -> Result<StateSheet, Refusal>
     ensures state_stated { StateStated width kind table.now state.temperature state.density result }
     ensures sheet_numbers { SheetNumbers result }
     ensures table_stays { table.exit.now ≡ table.entry.now }
@@ -43,7 +43,7 @@ pub fn density_check(
     state: State,
     target: f64,
     tolerance: f64,
-) -> Answer
+) -> Result<Ends, Rejection>
     ensures density_stated { DensityStated width kind table.now state.temperature state.density target tolerance result }
     ensures answer_numbers { AnswerNumbers result }
     ensures table_stays { table.exit.now ≡ table.entry.now }
@@ -60,7 +60,7 @@ pub fn pair_check(
     vapour: f64,
     pressure_tolerance: f64,
     gibbs_tolerance: f64,
-) -> Answer
+) -> Result<Ends, Rejection>
     ensures pair_stated { PairStated width kind table.now liquid.temperature liquid.density vapour pressure_tolerance gibbs_tolerance result }
     ensures answer_numbers { AnswerNumbers result }
     ensures table_stays { table.exit.now ≡ table.entry.now }

@@ -1,8 +1,8 @@
 // What a refusal without ends says.
 ghost use Rattle.std.specs.Prelude.{◌≡◌};
-ghost use Rattle.verdict.specs.Reading.{refusal_number, refusal_place, zeros};
+ghost use Rattle.verdict.specs.Reading.{refusal_number, refusal_place};
 
-use verdict::{Ends, Refusal};
+use verdict::Refusal;
 
 pub fn number(why: Refusal) -> u64
     ensures { result ≡ refusal_number why }
@@ -25,24 +25,7 @@ pub fn place(why: Refusal) -> u64
     ensures { result ≡ refusal_place why }
 {
     match why {
-        Refusal::Width => 0,
-        Refusal::Kind => 0,
-        Refusal::TableLength => 0,
         Refusal::BrokenTerm(at) => at as u64,
-        Refusal::Temperature => 0,
-        Refusal::Density => 0,
-        Refusal::Target => 0,
-        Refusal::Tolerance => 0,
-        Refusal::Sides => 0,
-        Refusal::Ceiling => 0,
-    }
-}
-
-pub fn no_ends() -> Ends
-    ensures { result ≡ zeros }
-{
-    Ends {
-        lower: 0.0,
-        upper: 0.0,
+        _ => 0,
     }
 }

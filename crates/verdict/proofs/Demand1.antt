@@ -1,5 +1,6 @@
 -- Demand 1: which number each kind of bad input gets, in order, with zero ends and the place of a broken term. `FailsAt k` of a call's steps
 -- (`specs/Rules.antt`) says that its check k, counted from 0, fails and that none before it does. Assumes nothing.
+use Rattle.std.specs.Prelude.{Ok, Err}
 use Prim.Native.Nat.{ℕ, ◌<◌}
 use mathlib.Core.Path.{◌≡◌, refl, ◌∙◌, ap}
 use mathlib.Core.Bool.{true, false}
@@ -21,11 +22,8 @@ use Rattle.term.specs.Sound.{sound_length, sound_table, first_broken}
 use Rattle.equation.specs.Rules.{pressure}
 use Rattle.verdict.specs.declared.Refusal.{Refusal}
 use Rattle.verdict.specs.declared.Refusal.TheVariants.{Width, Kind, TableLength, BrokenTerm, Temperature, Density, Target, Tolerance, Sides, Ceiling}
-use Rattle.verdict.specs.declared.SheetAnswer.{SheetAnswer}
-use Rattle.verdict.specs.declared.SheetAnswer.TheVariants as sheet
-use Rattle.verdict.specs.declared.Answer.{Answer}
-use Rattle.verdict.specs.declared.Answer.TheVariants.{Accepted, Refused, VapourPressure, PressureGap, GibbsGap, Stiffness}
-use Rattle.verdict.specs.Reading.{number, place, handed, zeros, sheet_number, sheet_place, sheet_pressure, sheet_stiffness, refusal_place, refusal_number}
+use Rattle.verdict.specs.declared.Rejection.TheVariants.{Refused, VapourPressure, PressureGap, GibbsGap, Stiffness}
+use Rattle.verdict.specs.Reading.{SheetAnswer, Answer, number, place, handed, zeros, sheet_number, sheet_place, sheet_pressure, sheet_stiffness, refusal_place, refusal_number}
 use Rattle.verdict.specs.Steps.{FailsAt, AllPass}
 use Rattle.verdict.specs.Rules.{sound_width, state_steps, state_answer, density_steps, density_answer, pair_steps, pair_answer}
 use Rattle.verdict.specs.Balance.{SoundPair}
@@ -37,12 +35,12 @@ use Rattle.verdict.proofs.SoundPairs.{sound-pair}
 
 -- ---- zeros: the numbers 1 to 8, 19 and 29 hand out nothing, and only 2 has a place
 pub refused_zeros : (a : Answer) → ((0 < number a) × (number a < 9)) ⊎ ((number a ≡ 19) ⊎ (number a ≡ 29)) → handed a ≡ zeros
-refused_zeros (Accepted ends) h = absurd (⊎_elim (λ k. omega (arith, k.0)) (⊎_elim (λ k. omega (arith, k)) (λ k. omega (arith, k))) h)
-refused_zeros (Refused why) h = refl
-refused_zeros (VapourPressure ends) h = absurd (⊎_elim (λ k. omega (arith, k.1)) (⊎_elim (λ k. omega (arith, k)) (λ k. omega (arith, k))) h)
-refused_zeros (PressureGap ends) h = absurd (⊎_elim (λ k. omega (arith, k.1)) (⊎_elim (λ k. omega (arith, k)) (λ k. omega (arith, k))) h)
-refused_zeros (GibbsGap ends) h = absurd (⊎_elim (λ k. omega (arith, k.1)) (⊎_elim (λ k. omega (arith, k)) (λ k. omega (arith, k))) h)
-refused_zeros (Stiffness ends) h = absurd (⊎_elim (λ k. omega (arith, k.1)) (⊎_elim (λ k. omega (arith, k)) (λ k. omega (arith, k))) h)
+refused_zeros (Ok ends) h = absurd (⊎_elim (λ k. omega (arith, k.0)) (⊎_elim (λ k. omega (arith, k)) (λ k. omega (arith, k))) h)
+refused_zeros (Err (Refused why)) h = refl
+refused_zeros (Err (VapourPressure ends)) h = absurd (⊎_elim (λ k. omega (arith, k.1)) (⊎_elim (λ k. omega (arith, k)) (λ k. omega (arith, k))) h)
+refused_zeros (Err (PressureGap ends)) h = absurd (⊎_elim (λ k. omega (arith, k.1)) (⊎_elim (λ k. omega (arith, k)) (λ k. omega (arith, k))) h)
+refused_zeros (Err (GibbsGap ends)) h = absurd (⊎_elim (λ k. omega (arith, k.1)) (⊎_elim (λ k. omega (arith, k)) (λ k. omega (arith, k))) h)
+refused_zeros (Err (Stiffness ends)) h = absurd (⊎_elim (λ k. omega (arith, k.1)) (⊎_elim (λ k. omega (arith, k)) (λ k. omega (arith, k))) h)
 
 pub refusal-place : (why : Refusal) → (refusal_number why ≡ 2 → ⊥) → refusal_place why ≡ 0
 refusal-place Width h = refl
@@ -57,20 +55,20 @@ refusal-place Sides h = refl
 refusal-place Ceiling h = refl
 
 pub no_place : (a : Answer) → (number a ≡ 2 → ⊥) → place a ≡ 0
-no_place (Accepted ends) h = refl
-no_place (Refused why) h = refusal-place why h
-no_place (VapourPressure ends) h = refl
-no_place (PressureGap ends) h = refl
-no_place (GibbsGap ends) h = refl
-no_place (Stiffness ends) h = refl
+no_place (Ok ends) h = refl
+no_place (Err (Refused why)) h = refusal-place why h
+no_place (Err (VapourPressure ends)) h = refl
+no_place (Err (PressureGap ends)) h = refl
+no_place (Err (GibbsGap ends)) h = refl
+no_place (Err (Stiffness ends)) h = refl
 
 pub sheet_zeros : (a : SheetAnswer) → 0 < sheet_number a → (sheet_pressure a ≡ zeros) × (sheet_stiffness a ≡ zeros)
-sheet_zeros (sheet.Answered p s) h = absurd (omega arith)
-sheet_zeros (sheet.Refused why) h = (refl, refl)
+sheet_zeros (Ok sheet) h = absurd (omega arith)
+sheet_zeros (Err why) h = (refl, refl)
 
 pub sheet_no_place : (a : SheetAnswer) → (sheet_number a ≡ 2 → ⊥) → sheet_place a ≡ 0
-sheet_no_place (sheet.Answered p s) h = refl
-sheet_no_place (sheet.Refused why) h = refusal-place why h
+sheet_no_place (Ok sheet) h = refl
+sheet_no_place (Err why) h = refusal-place why h
 
 -- ---- 3 is asked after 19, 29, 1 and 2: the width, the kind and the table are sound, and T is no finite number or not in the call's range
 after_table : (w kind : ℕ) (table : List ℕ) (low high : Fraction) (t : Float)

@@ -43,3 +43,7 @@ module _ (w : ℕ) where
 
   pub at_width : (P : ℕ → Type 0) → ((v : ℕ) → Width v → P (suc v)) → sound_width w ≡ true → P w
   at_width P h p = let l = one_less p in subst P l.1 (h (w - 1) l.0)
+
+-- the width of a setting
+pub width_of : (v : ℕ) → sound_width (suc v) ≡ true → Width v
+width_of v p = let less : suc v - 1 ≡ v = omega arith in subst Width less (one_less (suc v) p).0

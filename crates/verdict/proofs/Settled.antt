@@ -4,9 +4,7 @@ use mathlib.Core.Path.{◌≡◌, sym, ◌∙◌, ap}
 use mathlib.Core.List.{List}
 use Prim.Native.Nat.{ℕ}
 use lib.Ieee.{Float}
-use Rattle.verdict.specs.declared.SheetAnswer.{SheetAnswer}
-use Rattle.verdict.specs.declared.Answer.{Answer}
-use Rattle.verdict.specs.Reading.{number, place, handed, sheet_number, sheet_place, sheet_pressure, sheet_stiffness}
+use Rattle.verdict.specs.Reading.{SheetAnswer, Answer, number, place, handed, sheet_number, sheet_place, sheet_pressure, sheet_stiffness}
 use Rattle.verdict.specs.Statement.{StateStated, DensityStated, PairStated}
 
 -- what a caller sees of two answers of a check is the same

@@ -1,12 +1,12 @@
 -- What the code asks of what it works on: brackets whose two ends are exactly f64s, and inputs that passed their checks. Assumes nothing.
-use Rattle.std.specs.Prelude.{ℕ, ◌^◌, ◌<◌, ◌≡◌, true, List, T, Float}
+use Rattle.std.specs.Prelude.{ℕ, ◌^◌, ◌<◌, T, Float}
 use Rattle.std.specs.Float.Ieee.Scale.{finite}
-use Rattle.sheet.specs.Range.{Width, Doubled}
+use Rattle.sheet.specs.Range.{Doubled}
 use Rattle.exact.specs.Fraction.{◌≼◌}
 use Rattle.doubles.specs.Double.{exact_of}
 use Rattle.doubles.specs.Range.{accepted_temperature, accepted_density}
-use Rattle.term.specs.Sound.{sound_table}
 use Rattle.bracket.specs.declared.Bracket.{Bracket}
+use Rattle.verdict.specs.declared.State.{State}
 
 -- both ends are exactly f64s
 pub record Handy (b : Bracket) : Type 0 where
@@ -20,20 +20,16 @@ pub record EndsFinite (lower upper : Float) : Type 0 where
   pub lower_finite : T (finite lower)
   pub upper_finite : T (finite upper)
 
--- a width, a sound table of a kind, and a state in the kind's range
-pub record Workable (v kind : ℕ) (table : List ℕ) (t rho : Float) : Type 0 where
-  pub width : Width v
-  pub table_sound : sound_table kind table ≡ true
-  pub temperature : T (accepted_temperature kind t)
-  pub density : T (accepted_density kind rho)
+-- a state in the kind's range
+pub record Workable (kind : ℕ) (state : State) : Type 0 where
+  pub temperature : T (accepted_temperature kind state.temperature)
+  pub density : T (accepted_density kind state.density)
 
 -- the same for a pair, with the densities on their own sides
-pub record WorkablePair (v kind : ℕ) (table : List ℕ) (t liquid vapour pressure_tolerance gibbs_tolerance : Float) : Type 0 where
-  pub width : Width v
-  pub table_sound : sound_table kind table ≡ true
-  pub temperature : T (accepted_temperature kind t)
-  pub liquid_density : T (accepted_density kind liquid)
+pub record WorkablePair (kind : ℕ) (liquid : State) (vapour pressure_tolerance gibbs_tolerance : Float) : Type 0 where
+  pub temperature : T (accepted_temperature kind liquid.temperature)
+  pub liquid_density : T (accepted_density kind liquid.density)
   pub vapour_density : T (accepted_density kind vapour)
   pub pressure-tolerance : T (finite pressure_tolerance)
   pub gibbs-tolerance : T (finite gibbs_tolerance)
-  pub above : exact_of vapour ≼ exact_of liquid
+  pub above : exact_of vapour ≼ exact_of liquid.density

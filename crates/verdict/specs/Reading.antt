@@ -1,15 +1,21 @@
 -- How an answer is read: the number, the place and the ends that document 01 ("Verdicts"), and for 19, 21 and 29 document 02, d, f and h, give each case.
 -- Assumes nothing.
-use Rattle.std.specs.Prelude.{ℕ, pos, false, not, T, Float}
+use Rattle.std.specs.Prelude.{ℕ, pos, false, not, T, Float, Result, Ok, Err}
 use Rattle.std.specs.Float.{fin}
 use Rattle.std.specs.Float.Ieee.{is_nan}
 use Rattle.verdict.specs.declared.Ends.{Ends}
 use Rattle.verdict.specs.declared.Refusal.{Refusal}
 use Rattle.verdict.specs.declared.Refusal.TheVariants.{Width, Kind, TableLength, BrokenTerm, Temperature, Density, Target, Tolerance, Sides, Ceiling}
-use Rattle.verdict.specs.declared.SheetAnswer.{SheetAnswer}
-use Rattle.verdict.specs.declared.SheetAnswer.TheVariants as sheet
-use Rattle.verdict.specs.declared.Answer.{Answer}
-use Rattle.verdict.specs.declared.Answer.TheVariants.{Accepted, Refused, VapourPressure, PressureGap, GibbsGap, Stiffness}
+use Rattle.verdict.specs.declared.StateSheet.{StateSheet}
+use Rattle.verdict.specs.declared.Rejection.{Rejection}
+use Rattle.verdict.specs.declared.Rejection.TheVariants.{Refused, VapourPressure, PressureGap, GibbsGap, Stiffness}
+
+-- what the state sheet answers, and what the two checks do
+abbrev pub SheetAnswer : Type 0
+SheetAnswer = Result StateSheet Refusal
+
+abbrev pub Answer : Type 0
+Answer = Result Ends Rejection
 
 -- a refusal's number, and its place: 0 but for a broken term
 abbrev pub refusal_number : Refusal → ℕ
@@ -45,45 +51,45 @@ zeros = record { lower = plain_zero; upper = plain_zero }
 
 -- the two checks
 abbrev pub number : Answer → ℕ
-number (Accepted ends) = 0
-number (Refused why) = refusal_number why
-number (VapourPressure ends) = 21
-number (PressureGap ends) = 9
-number (GibbsGap ends) = 10
-number (Stiffness ends) = 11
+number (Ok ends) = 0
+number (Err (Refused why)) = refusal_number why
+number (Err (VapourPressure ends)) = 21
+number (Err (PressureGap ends)) = 9
+number (Err (GibbsGap ends)) = 10
+number (Err (Stiffness ends)) = 11
 
 abbrev pub place : Answer → ℕ
-place (Accepted ends) = 0
-place (Refused why) = refusal_place why
-place (VapourPressure ends) = 0
-place (PressureGap ends) = 0
-place (GibbsGap ends) = 0
-place (Stiffness ends) = 0
+place (Ok ends) = 0
+place (Err (Refused why)) = refusal_place why
+place (Err (VapourPressure ends)) = 0
+place (Err (PressureGap ends)) = 0
+place (Err (GibbsGap ends)) = 0
+place (Err (Stiffness ends)) = 0
 
 abbrev pub handed : Answer → Ends
-handed (Accepted ends) = ends
-handed (Refused why) = zeros
-handed (VapourPressure ends) = ends
-handed (PressureGap ends) = ends
-handed (GibbsGap ends) = ends
-handed (Stiffness ends) = ends
+handed (Ok ends) = ends
+handed (Err (Refused why)) = zeros
+handed (Err (VapourPressure ends)) = ends
+handed (Err (PressureGap ends)) = ends
+handed (Err (GibbsGap ends)) = ends
+handed (Err (Stiffness ends)) = ends
 
 -- the state sheet: a refused one has all four ends zero
 abbrev pub sheet_number : SheetAnswer → ℕ
-sheet_number (sheet.Answered pressure stiffness) = 0
-sheet_number (sheet.Refused why) = refusal_number why
+sheet_number (Ok sheet) = 0
+sheet_number (Err why) = refusal_number why
 
 abbrev pub sheet_place : SheetAnswer → ℕ
-sheet_place (sheet.Answered pressure stiffness) = 0
-sheet_place (sheet.Refused why) = refusal_place why
+sheet_place (Ok sheet) = 0
+sheet_place (Err why) = refusal_place why
 
 abbrev pub sheet_pressure : SheetAnswer → Ends
-sheet_pressure (sheet.Answered pressure stiffness) = pressure
-sheet_pressure (sheet.Refused why) = zeros
+sheet_pressure (Ok sheet) = sheet.pressure
+sheet_pressure (Err why) = zeros
 
 abbrev pub sheet_stiffness : SheetAnswer → Ends
-sheet_stiffness (sheet.Answered pressure stiffness) = stiffness
-sheet_stiffness (sheet.Refused why) = zeros
+sheet_stiffness (Ok sheet) = sheet.stiffness
+sheet_stiffness (Err why) = zeros
 
 -- no end is a NaN, so that each has one pattern of bits
 abbrev pub Numbers : Ends → Type 0

@@ -1,7 +1,6 @@
 -- What each public function states of its answer, as one relation on inputs and answer; w is the width, kind the kind of table. Assumes nothing.
 use Rattle.std.specs.Prelude.{◌≡◌, List, ℕ, Float}
-use Rattle.verdict.specs.declared.SheetAnswer.{SheetAnswer}
-use Rattle.verdict.specs.declared.Answer.{Answer}
+use Rattle.verdict.specs.Reading.{SheetAnswer, Answer}
 use Rattle.verdict.specs.Rules.{state_answer, density_answer, pair_answer}
 
 abbrev pub StateStated : (w kind : ℕ) → List ℕ → (t rho : Float) → SheetAnswer → Type 0

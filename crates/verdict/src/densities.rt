@@ -1,11 +1,8 @@
 // The density check: all numbers but 7, 10, 12 and 21.
-ghost use Rattle.std.specs.Prelude.{◌≡◌, true, suc, T};
-ghost use Rattle.sheet.specs.Range.{Width};
+ghost use Rattle.std.specs.Prelude.{◌≡◌, Ok, suc, T};
 ghost use Rattle.std.specs.Float.Ieee.Scale.{finite};
 ghost use Rattle.doubles.specs.Double.{exact_of};
-ghost use Rattle.term.specs.Sound.{sound_table};
 ghost use Rattle.equation.specs.Rules.{pressure};
-ghost use Rattle.verdict.specs.declared.Answer.TheVariants.{Accepted};
 ghost use Rattle.verdict.specs.Reading.{AnswerNumbers};
 ghost use Rattle.verdict.specs.Steps.{first_failing};
 ghost use Rattle.verdict.specs.Rules.{handed_out, density_worked, density_inputs};
@@ -14,58 +11,45 @@ ghost use Rattle.verdict.specs.Handed.{Handy};
 
 use crate::handed::{gap_passes, handed_out, pushes_back, under_ceiling};
 use crate::phases::phase_of;
-use crate::widths::sound_width;
-use crate::{Answer, Refusal, State};
+use crate::{Ends, Refusal, Rejection, Setting, State};
 use bracket::Bracket;
-use term::Table;
+use doubles::range;
 
 // 8, 9 and 11, by the brackets of pressure, of pressure less target, and of stiffness.
-pub fn worked(kind: u64, p: Bracket, gap: Bracket, s: Bracket, tolerance: f64) -> Answer
+pub fn worked(
+    kind: u64,
+    p: Bracket,
+    gap: Bracket,
+    s: Bracket,
+    tolerance: f64,
+) -> Result<Ends, Rejection>
     requires { (Handy p × Handy gap) × (Handy s × T (finite tolerance)) }
-    ensures value { result ≡ first_failing (density_worked kind p gap s tolerance) (Accepted (handed_out p)) }
+    ensures value { result ≡ first_failing (density_worked kind p gap s tolerance) (Ok (handed_out p)) }
     ensures answer_numbers { AnswerNumbers result }
 {
-    if !under_ceiling(kind, p) {
-        return Answer::Refused(Refusal::Ceiling);
-    }
+    Refusal::Ceiling.unless(under_ceiling(kind, p))?;
     if !gap_passes(gap, tolerance) {
-        return Answer::PressureGap(handed_out(gap));
+        return Err(Rejection::PressureGap(handed_out(gap)));
     }
     if !pushes_back(s) {
-        return Answer::Stiffness(handed_out(s));
+        return Err(Rejection::Stiffness(handed_out(s)));
     }
-    Answer::Accepted(handed_out(p))
+    Ok(handed_out(p))
 }
 
 // 3 to 6, and what follows.
-fn screened(
-    v: u64,
-    kind: u64,
-    table: &[u8],
-    t: f64,
-    rho: f64,
-    target: f64,
-    tolerance: f64,
-) -> Answer
-    requires { Width v × (sound_table kind table.now ≡ true) }
-    ensures value { result ≡ first_failing (density_inputs (suc v) kind table.now t rho target tolerance) (Accepted (handed_out (pressure (suc v) kind table.now (exact_of t) (exact_of rho)))) }
+fn screened(setting: Setting, state: State, target: f64, tolerance: f64) -> Result<Ends, Rejection>
+    ensures value { result ≡ first_failing (density_inputs (suc setting.entry.v) setting.entry.table.kind setting.entry.table.bytes.now state.temperature state.density target tolerance) (Ok (handed_out (pressure (suc setting.entry.v) setting.entry.table.kind setting.entry.table.bytes.now (exact_of state.temperature) (exact_of state.density)))) }
     ensures answer_numbers { AnswerNumbers result }
 {
-    if !doubles::range::accepts_temperature(kind, t) {
-        return Answer::Refused(Refusal::Temperature);
-    }
-    if !doubles::range::accepts_density(kind, rho) {
-        return Answer::Refused(Refusal::Density);
-    }
-    if !doubles::range::accepts_target(kind, target) {
-        return Answer::Refused(Refusal::Target);
-    }
-    if !doubles::range::accepts_tolerance(tolerance) {
-        return Answer::Refused(Refusal::Tolerance);
-    }
-    let a = phase_of(v, kind, table, t, rho);
-    let gap = equation::target_gap_of(v, a.pressure, target);
-    worked(kind, a.pressure, gap, a.stiffness, tolerance)
+    let kind = setting.table.kind;
+    Refusal::Temperature.unless(range::accepts_temperature(kind, state.temperature))?;
+    Refusal::Density.unless(range::accepts_density(kind, state.density))?;
+    Refusal::Target.unless(range::accepts_target(kind, target))?;
+    Refusal::Tolerance.unless(range::accepts_tolerance(tolerance))?;
+    let phase = phase_of(setting, state);
+    let gap = equation::target_gap_of(setting.v, phase.pressure, target);
+    worked(kind, phase.pressure, gap, phase.stiffness, tolerance)
 }
 
 pub fn density_check(
@@ -75,22 +59,11 @@ pub fn density_check(
     state: State,
     target: f64,
     tolerance: f64,
-) -> Answer
+) -> Result<Ends, Rejection>
     ensures density_stated { DensityStated width kind table.now state.temperature state.density target tolerance result }
     ensures answer_numbers { AnswerNumbers result }
     ensures table_stays { table.exit.now ≡ table.entry.now }
 {
-    let t = state.temperature;
-    let rho = state.density;
-    if !sound_width(width) {
-        return Answer::Refused(Refusal::Width);
-    }
-    if !kind::sound_kind(kind) {
-        return Answer::Refused(Refusal::Kind);
-    }
-    match term::check_table(kind, table) {
-        Table::Length => Answer::Refused(Refusal::TableLength),
-        Table::Broken(place) => Answer::Refused(Refusal::BrokenTerm(place)),
-        Table::Sound(_) => screened(width - 1, kind, table, t, rho, target, tolerance),
-    }
+    let setting = Setting::check(width, kind, table)?;
+    screened(setting, state, target, tolerance)
 }

@@ -3,6 +3,8 @@
 #![tactic(auto)]
 
 mod widths; // widths.rt: which widths there are
+mod refusals; // refusals.rt: a test as a step that may refuse, and what a refusal becomes
+mod settings; // settings.rt: a width and a sound table
 mod handed; // handed.rt: ends handed out, and their tests
 pub mod phases; // phases.rt: one phase in one pass over the table
 pub mod densities; // densities.rt: the density check
@@ -12,6 +14,7 @@ pub mod sheets; // sheets.rt: the state sheet
 pub use densities::density_check;
 pub use handed::handed_out;
 pub use pairs::pair_check;
+pub use settings::Setting;
 pub use sheets::state_sheet;
 pub use widths::sound_width;
 
@@ -44,17 +47,16 @@ pub enum Refusal {
     Ceiling,
 }
 
-// What the state sheet answers: the brackets of pressure and of stiffness.
+// What the state sheet hands out.
 #[derive(Clone, Copy)]
-pub enum SheetAnswer {
-    Answered(Ends, Ends),
-    Refused(Refusal),
+pub struct StateSheet {
+    pub pressure: Ends,
+    pub stiffness: Ends,
 }
 
-// What the density check and the pair check answer: accepted with a pressure, refused with nothing, or refused with what did not pass.
+// Why the density check or the pair check says no: refused with nothing, or with what did not pass.
 #[derive(Clone, Copy)]
-pub enum Answer {
-    Accepted(Ends),
+pub enum Rejection {
     Refused(Refusal),
     VapourPressure(Ends),
     PressureGap(Ends),

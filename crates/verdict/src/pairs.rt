@@ -1,12 +1,9 @@
 // The pair check: all numbers but 5 and 12. Liquid and vapour have one temperature, from the triple point on.
-ghost use Rattle.std.specs.Prelude.{◌≡◌, true, ◌&&◌, suc, T};
-ghost use Rattle.sheet.specs.Range.{Width};
+ghost use Rattle.std.specs.Prelude.{◌≡◌, Ok, ◌&&◌, suc, T};
 ghost use Rattle.std.specs.Float.Ieee.Scale.{finite};
 ghost use Rattle.doubles.specs.Double.{exact_of};
 ghost use Rattle.doubles.specs.Range.{accepted_density, accepted_tolerance};
-ghost use Rattle.term.specs.Sound.{sound_table};
 ghost use Rattle.equation.specs.Rules.{pressure};
-ghost use Rattle.verdict.specs.declared.Answer.TheVariants.{Accepted};
 ghost use Rattle.verdict.specs.Reading.{AnswerNumbers};
 ghost use Rattle.verdict.specs.Steps.{first_failing};
 ghost use Rattle.verdict.specs.Rules.{handed_out, under_ceiling, on_sides, balance_worked, pair_worked, pair_rest, pair_inputs};
@@ -15,70 +12,60 @@ ghost use Rattle.verdict.specs.Handed.{Handy, WorkablePair};
 
 use crate::handed::{gap_passes, handed_out, pushes_back, under_ceiling};
 use crate::phases::phase_of;
-use crate::widths::sound_width;
-use crate::{Answer, Refusal, State};
+use crate::{Ends, Refusal, Rejection, Setting, State};
 use bracket::Bracket;
-use term::Table;
+use doubles::range;
 
 pub fn accepts_densities(kind: u64, liquid: f64, vapour: f64) -> bool
     ensures { result ≡ (accepted_density kind liquid && accepted_density kind vapour) }
 {
-    if doubles::range::accepts_density(kind, liquid) {
-        doubles::range::accepts_density(kind, vapour)
-    } else {
-        false
-    }
+    range::accepts_density(kind, liquid) && range::accepts_density(kind, vapour)
 }
 
 pub fn accepts_tolerances(pressure: f64, gibbs: f64) -> bool
     ensures { result ≡ (accepted_tolerance pressure && accepted_tolerance gibbs) }
 {
-    if doubles::range::accepts_tolerance(pressure) {
-        doubles::range::accepts_tolerance(gibbs)
-    } else {
-        false
-    }
+    range::accepts_tolerance(pressure) && range::accepts_tolerance(gibbs)
 }
 
+#[tactic(auto, unfolding(crate::specs::Rules::on_sides))]
 pub fn on_sides(liquid: f64, vapour: f64) -> bool
     requires { T (finite liquid) × T (finite vapour) }
     ensures { result ≡ on_sides liquid vapour }
 {
-    if doubles::range::above_critical(liquid) {
-        doubles::range::below_critical(vapour)
-    } else {
-        false
-    }
+    range::above_critical(liquid) && range::below_critical(vapour)
 }
 
 fn both_under_ceiling(kind: u64, p: Bracket, q: Bracket) -> bool
     requires { Handy p × Handy q }
     ensures { result ≡ (under_ceiling kind p && under_ceiling kind q) }
 {
-    if under_ceiling(kind, p) {
-        under_ceiling(kind, q)
-    } else {
-        false
-    }
+    under_ceiling(kind, p) && under_ceiling(kind, q)
 }
 
 // 10 and 11, by the brackets of the Gibbs gap and of the two stiffnesses; accepted with the vapour's pressure q.
-fn balanced(gibbs: Bracket, l: Bracket, v: Bracket, gibbs_tolerance: f64, q: Bracket) -> Answer
+fn balanced(
+    gibbs: Bracket,
+    l: Bracket,
+    v: Bracket,
+    gibbs_tolerance: f64,
+    q: Bracket,
+) -> Result<Ends, Rejection>
     requires handy { (Handy gibbs × Handy l) × (Handy v × Handy q) }
     requires tolerance_finite { T (finite gibbs_tolerance) }
-    ensures value { result ≡ first_failing (balance_worked gibbs l v gibbs_tolerance) (Accepted (handed_out q)) }
+    ensures value { result ≡ first_failing (balance_worked gibbs l v gibbs_tolerance) (Ok (handed_out q)) }
     ensures answer_numbers { AnswerNumbers result }
 {
     if !gap_passes(gibbs, gibbs_tolerance) {
-        return Answer::GibbsGap(handed_out(gibbs));
+        return Err(Rejection::GibbsGap(handed_out(gibbs)));
     }
     if !pushes_back(l) {
-        return Answer::Stiffness(handed_out(l));
+        return Err(Rejection::Stiffness(handed_out(l)));
     }
     if !pushes_back(v) {
-        return Answer::Stiffness(handed_out(v));
+        return Err(Rejection::Stiffness(handed_out(v)));
     }
-    Answer::Accepted(handed_out(q))
+    Ok(handed_out(q))
 }
 
 // 8, 21 and 9, by the brackets of the two pressures and of their gap, and what follows.
@@ -92,44 +79,47 @@ pub fn judged(
     v: Bracket,
     pressure_tolerance: f64,
     gibbs_tolerance: f64,
-) -> Answer
+) -> Result<Ends, Rejection>
     requires { (((Handy p × Handy q) × (Handy gap × Handy gibbs)) × (Handy l × Handy v)) × (T (finite pressure_tolerance) × T (finite gibbs_tolerance)) }
-    ensures value { result ≡ first_failing (pair_worked kind p q gap pressure_tolerance (balance_worked gibbs l v gibbs_tolerance)) (Accepted (handed_out q)) }
+    ensures value { result ≡ first_failing (pair_worked kind p q gap pressure_tolerance (balance_worked gibbs l v gibbs_tolerance)) (Ok (handed_out q)) }
     ensures answer_numbers { AnswerNumbers result }
 {
-    if !both_under_ceiling(kind, p, q) {
-        return Answer::Refused(Refusal::Ceiling);
-    }
+    Refusal::Ceiling.unless(both_under_ceiling(kind, p, q))?;
     if !pushes_back(q) {
-        return Answer::VapourPressure(handed_out(q));
+        return Err(Rejection::VapourPressure(handed_out(q)));
     }
     if !gap_passes(gap, pressure_tolerance) {
-        return Answer::PressureGap(handed_out(gap));
+        return Err(Rejection::PressureGap(handed_out(gap)));
     }
     balanced(gibbs, l, v, gibbs_tolerance, q)
 }
 
 // Each phase is worked out once, in one pass over the table.
 fn worked(
-    v: u64,
-    kind: u64,
-    table: &[u8],
-    t: f64,
-    liquid: f64,
+    setting: Setting,
+    liquid: State,
     vapour: f64,
     pressure_tolerance: f64,
     gibbs_tolerance: f64,
-) -> Answer
-    requires { WorkablePair v kind table.now t liquid vapour pressure_tolerance gibbs_tolerance }
-    ensures value { result ≡ first_failing (pair_rest (suc v) kind table.now t liquid vapour pressure_tolerance gibbs_tolerance) (Accepted (handed_out (pressure (suc v) kind table.now (exact_of t) (exact_of vapour)))) }
+) -> Result<Ends, Rejection>
+    requires { WorkablePair setting.table.kind liquid vapour pressure_tolerance gibbs_tolerance }
+    ensures value { result ≡ first_failing (pair_rest (suc setting.entry.v) setting.entry.table.kind setting.entry.table.bytes.now liquid.temperature liquid.density vapour pressure_tolerance gibbs_tolerance) (Ok (handed_out (pressure (suc setting.entry.v) setting.entry.table.kind setting.entry.table.bytes.now (exact_of liquid.temperature) (exact_of vapour)))) }
     ensures answer_numbers { AnswerNumbers result }
 {
-    let l = phase_of(v, kind, table, t, liquid);
-    let g = phase_of(v, kind, table, t, vapour);
+    let v = setting.v;
+    let t = liquid.temperature;
+    let l = phase_of(setting, liquid);
+    let g = phase_of(
+        setting,
+        State {
+            temperature: t,
+            density: vapour,
+        },
+    );
     let gap = equation::pressure_gap_of(v, l.pressure, g.pressure);
-    let gibbs = equation::gibbs_gap_of(v, t, liquid, vapour, l.sums, g.sums);
+    let gibbs = equation::gibbs_gap_of(v, t, liquid.density, vapour, l.sums, g.sums);
     judged(
-        kind,
+        setting.table.kind,
         l.pressure,
         g.pressure,
         gap,
@@ -143,41 +133,21 @@ fn worked(
 
 // 3, 4, 6 and 7, and what follows.
 fn screened(
-    v: u64,
-    kind: u64,
-    table: &[u8],
-    t: f64,
-    liquid: f64,
+    setting: Setting,
+    liquid: State,
     vapour: f64,
     pressure_tolerance: f64,
     gibbs_tolerance: f64,
-) -> Answer
-    requires { Width v × (sound_table kind table.now ≡ true) }
-    ensures value { result ≡ first_failing (pair_inputs (suc v) kind table.now t liquid vapour pressure_tolerance gibbs_tolerance) (Accepted (handed_out (pressure (suc v) kind table.now (exact_of t) (exact_of vapour)))) }
+) -> Result<Ends, Rejection>
+    ensures value { result ≡ first_failing (pair_inputs (suc setting.entry.v) setting.entry.table.kind setting.entry.table.bytes.now liquid.temperature liquid.density vapour pressure_tolerance gibbs_tolerance) (Ok (handed_out (pressure (suc setting.entry.v) setting.entry.table.kind setting.entry.table.bytes.now (exact_of liquid.temperature) (exact_of vapour)))) }
     ensures answer_numbers { AnswerNumbers result }
 {
-    if !doubles::range::accepts_pair_temperature(t) {
-        return Answer::Refused(Refusal::Temperature);
-    }
-    if !accepts_densities(kind, liquid, vapour) {
-        return Answer::Refused(Refusal::Density);
-    }
-    if !accepts_tolerances(pressure_tolerance, gibbs_tolerance) {
-        return Answer::Refused(Refusal::Tolerance);
-    }
-    if !on_sides(liquid, vapour) {
-        return Answer::Refused(Refusal::Sides);
-    }
-    worked(
-        v,
-        kind,
-        table,
-        t,
-        liquid,
-        vapour,
-        pressure_tolerance,
-        gibbs_tolerance,
-    )
+    let kind = setting.table.kind;
+    Refusal::Temperature.unless(range::accepts_pair_temperature(liquid.temperature))?;
+    Refusal::Density.unless(accepts_densities(kind, liquid.density, vapour))?;
+    Refusal::Tolerance.unless(accepts_tolerances(pressure_tolerance, gibbs_tolerance))?;
+    Refusal::Sides.unless(on_sides(liquid.density, vapour))?;
+    worked(setting, liquid, vapour, pressure_tolerance, gibbs_tolerance)
 }
 
 pub fn pair_check(
@@ -188,31 +158,11 @@ pub fn pair_check(
     vapour: f64,
     pressure_tolerance: f64,
     gibbs_tolerance: f64,
-) -> Answer
+) -> Result<Ends, Rejection>
     ensures pair_stated { PairStated width kind table.now liquid.temperature liquid.density vapour pressure_tolerance gibbs_tolerance result }
     ensures answer_numbers { AnswerNumbers result }
     ensures table_stays { table.exit.now ≡ table.entry.now }
 {
-    let t = liquid.temperature;
-    let rho = liquid.density;
-    if !sound_width(width) {
-        return Answer::Refused(Refusal::Width);
-    }
-    if !kind::sound_kind(kind) {
-        return Answer::Refused(Refusal::Kind);
-    }
-    match term::check_table(kind, table) {
-        Table::Length => Answer::Refused(Refusal::TableLength),
-        Table::Broken(place) => Answer::Refused(Refusal::BrokenTerm(place)),
-        Table::Sound(_) => screened(
-            width - 1,
-            kind,
-            table,
-            t,
-            rho,
-            vapour,
-            pressure_tolerance,
-            gibbs_tolerance,
-        ),
-    }
+    let setting = Setting::check(width, kind, table)?;
+    screened(setting, liquid, vapour, pressure_tolerance, gibbs_tolerance)
 }

@@ -4,6 +4,7 @@ ghost use Rattle.doubles.specs.Double.{exact_of};
 ghost use Rattle.verdict.specs.Worked.{phase_of};
 ghost use Rattle.verdict.specs.Handed.{Workable};
 
+use crate::{Setting, State};
 use bracket::Bracket;
 use equation::Sums;
 
@@ -14,12 +15,14 @@ pub struct Phase {
     pub stiffness: Bracket,
 }
 
-pub fn phase_of(v: u64, kind: u64, table: &[u8], t: f64, rho: f64) -> Phase
-    requires { Workable v kind table.now t rho }
-    ensures { result ≡ phase_of (suc v) kind table.now (exact_of t) (exact_of rho) }
+pub fn phase_of(setting: Setting, state: State) -> Phase
+    requires { Workable setting.table.kind state }
+    ensures { result ≡ phase_of (suc setting.entry.v) setting.entry.table.kind setting.entry.table.bytes.now (exact_of state.temperature) (exact_of state.density) }
 {
-    let sums = equation::sums_of(v, kind, table, t, rho);
-    let pressure = equation::pressure_of(v, t, rho, sums);
+    let v = setting.v;
+    let t = state.temperature;
+    let sums = equation::sums_of(v, setting.table, t, state.density);
+    let pressure = equation::pressure_of(v, t, state.density, sums);
     let stiffness = equation::stiffness_of(v, t, sums);
     Phase {
         sums,

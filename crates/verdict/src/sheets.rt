@@ -1,8 +1,5 @@
 // The state sheet: the checks 19, 29, 1 to 4 and 8, then the brackets of pressure and of stiffness.
-ghost use Rattle.std.specs.Prelude.{◌≡◌, true, suc};
-ghost use Rattle.sheet.specs.Range.{Width};
-ghost use Rattle.term.specs.Sound.{sound_table};
-ghost use Rattle.verdict.specs.declared.SheetAnswer.TheVariants.{Answered};
+ghost use Rattle.std.specs.Prelude.{◌≡◌, Ok, suc};
 ghost use Rattle.verdict.specs.Reading.{SheetNumbers};
 ghost use Rattle.verdict.specs.Steps.{first_failing};
 ghost use Rattle.verdict.specs.Rules.{handed_out, state_worked, state_inputs, state_accepted};
@@ -11,58 +8,42 @@ ghost use Rattle.verdict.specs.Handed.{Handy};
 
 use crate::handed::{handed_out, under_ceiling};
 use crate::phases::phase_of;
-use crate::widths::sound_width;
-use crate::{Refusal, SheetAnswer, State};
+use crate::{Refusal, Setting, State, StateSheet};
 use bracket::Bracket;
-use term::Table;
+use doubles::range;
 
 // 8, then the ends.
-pub fn worked(kind: u64, pressure: Bracket, stiffness: Bracket) -> SheetAnswer
+pub fn worked(kind: u64, pressure: Bracket, stiffness: Bracket) -> Result<StateSheet, Refusal>
     requires { Handy pressure × Handy stiffness }
-    ensures value { result ≡ first_failing (state_worked kind pressure) (Answered (handed_out pressure) (handed_out stiffness)) }
+    ensures value { result ≡ first_failing (state_worked kind pressure) (Ok (record { pressure = handed_out pressure; stiffness = handed_out stiffness })) }
     ensures sheet_numbers { SheetNumbers result }
 {
-    if under_ceiling(kind, pressure) {
-        let p = handed_out(pressure);
-        let s = handed_out(stiffness);
-        SheetAnswer::Answered(p, s)
-    } else {
-        SheetAnswer::Refused(Refusal::Ceiling)
+    if !under_ceiling(kind, pressure) {
+        return Err(Refusal::Ceiling);
     }
+    Ok(StateSheet {
+        pressure: handed_out(pressure),
+        stiffness: handed_out(stiffness),
+    })
 }
 
 // 3 and 4, and what follows.
-fn screened(v: u64, kind: u64, table: &[u8], t: f64, rho: f64) -> SheetAnswer
-    requires { Width v × (sound_table kind table.now ≡ true) }
-    ensures value { result ≡ first_failing (state_inputs (suc v) kind table.now t rho) (state_accepted (suc v) kind table.now t rho) }
+fn screened(setting: Setting, state: State) -> Result<StateSheet, Refusal>
+    ensures value { result ≡ first_failing (state_inputs (suc setting.entry.v) setting.entry.table.kind setting.entry.table.bytes.now state.temperature state.density) (state_accepted (suc setting.entry.v) setting.entry.table.kind setting.entry.table.bytes.now state.temperature state.density) }
     ensures sheet_numbers { SheetNumbers result }
 {
-    if !doubles::range::accepts_temperature(kind, t) {
-        return SheetAnswer::Refused(Refusal::Temperature);
-    }
-    if !doubles::range::accepts_density(kind, rho) {
-        return SheetAnswer::Refused(Refusal::Density);
-    }
-    let a = phase_of(v, kind, table, t, rho);
-    worked(kind, a.pressure, a.stiffness)
+    let kind = setting.table.kind;
+    Refusal::Temperature.unless(range::accepts_temperature(kind, state.temperature))?;
+    Refusal::Density.unless(range::accepts_density(kind, state.density))?;
+    let phase = phase_of(setting, state);
+    worked(kind, phase.pressure, phase.stiffness)
 }
 
-pub fn state_sheet(width: u64, kind: u64, table: &[u8], state: State) -> SheetAnswer
+pub fn state_sheet(width: u64, kind: u64, table: &[u8], state: State) -> Result<StateSheet, Refusal>
     ensures state_stated { StateStated width kind table.now state.temperature state.density result }
     ensures sheet_numbers { SheetNumbers result }
     ensures table_stays { table.exit.now ≡ table.entry.now }
 {
-    let t = state.temperature;
-    let rho = state.density;
-    if !sound_width(width) {
-        return SheetAnswer::Refused(Refusal::Width);
-    }
-    if !kind::sound_kind(kind) {
-        return SheetAnswer::Refused(Refusal::Kind);
-    }
-    match term::check_table(kind, table) {
-        Table::Length => SheetAnswer::Refused(Refusal::TableLength),
-        Table::Broken(place) => SheetAnswer::Refused(Refusal::BrokenTerm(place)),
-        Table::Sound(_) => screened(width - 1, kind, table, t, rho),
-    }
+    let setting = Setting::check(width, kind, table)?;
+    screened(setting, state)
 }

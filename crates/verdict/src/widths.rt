@@ -2,11 +2,9 @@
 ghost use Rattle.std.specs.Prelude.{◌≡◌};
 ghost use Rattle.verdict.specs.Rules.{sound_width};
 
+#[tactic(auto, unfolding(crate::specs::Rules::sound_width))]
 pub fn sound_width(width: u64) -> bool
     ensures { result ≡ sound_width width }
 {
-    if width == 32 {
-        return true;
-    }
-    width == 53
+    width == 32 || width == 53
 }

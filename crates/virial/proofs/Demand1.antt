@@ -1,5 +1,6 @@
 -- Demand 1 for the vapour card: which number each kind of bad input gets, in order, with zero ends and the place of a broken term. `FailsAt k`
 -- says that check k of the card, counted from 0, fails and that none before it does. Assumes nothing.
+use Rattle.std.specs.Prelude.{Ok, Err}
 use Prim.Native.Nat.{ℕ, ◌<◌}
 use native.Mathlib.Omega.{arith}
 use mathlib.Core.Path.{◌≡◌, refl, ◌∙◌, ap}
@@ -19,20 +20,18 @@ use Rattle.verdict.proofs.Order.{exactly, accepted, on_pass, on_fail}
 use Rattle.verdict.proofs.Tables.{table_parts, sound}
 use Rattle.verdict.proofs.EitherWidth.{unsound_width}
 use Rattle.verdict.proofs.Demand1.{refusal-place}
-use Rattle.virial.specs.declared.Card.{Card}
-use Rattle.virial.specs.declared.Card.TheVariants.{Answered, Refused}
 use Rattle.virial.specs.Profile.{profile_temperature}
-use Rattle.virial.specs.Reading.{card_number, card_place, card_second, card_third, card_pressure}
+use Rattle.virial.specs.Reading.{CardAnswer, card_number, card_place, card_second, card_third, card_pressure}
 use Rattle.virial.specs.Answers.{card_steps, card_answer}
 
 -- ---- zeros: a refused card has no ends, and only 2 has a place
-pub card_zeros : (a : Card) → 0 < card_number a → (card_second a ≡ zeros) × (card_third a ≡ zeros) × (card_pressure a ≡ zeros)
-card_zeros (Answered b c p) h = absurd (omega arith)
-card_zeros (Refused why) h = (refl, refl, refl)
+pub card_zeros : (a : CardAnswer) → 0 < card_number a → (card_second a ≡ zeros) × (card_third a ≡ zeros) × (card_pressure a ≡ zeros)
+card_zeros (Ok card) h = absurd (omega arith)
+card_zeros (Err why) h = (refl, refl, refl)
 
-pub card_no_place : (a : Card) → (card_number a ≡ 2 → ⊥) → card_place a ≡ 0
-card_no_place (Answered b c p) h = refl
-card_no_place (Refused why) h = refusal-place why h
+pub card_no_place : (a : CardAnswer) → (card_number a ≡ 2 → ⊥) → card_place a ≡ 0
+card_no_place (Ok card) h = refl
+card_no_place (Err why) h = refusal-place why h
 
 module _ (w : ℕ) (table : List ℕ) (t rho : Float) where
   -- the width

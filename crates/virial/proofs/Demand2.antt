@@ -16,18 +16,17 @@ use Rattle.verdict.proofs.Tables.{sound}
 use Rattle.verdict.proofs.Tests.{holds}
 use Rattle.verdict.proofs.EitherWidth.{at_width}
 use Rattle.verdict.proofs.HandedOut.{handed-covers}
-use Rattle.virial.specs.declared.Card.{Card}
 use Rattle.virial.specs.Profile.{profile_temperature, profile_density}
 use Rattle.virial.specs.Rules.{coefficients, pressure_of}
 use Rattle.virial.specs.Itself.{second_at, third_at, virial_pressure_at}
-use Rattle.virial.specs.Reading.{card_number, card_second, card_third, card_pressure}
+use Rattle.virial.specs.Reading.{CardAnswer, card_number, card_second, card_third, card_pressure}
 use Rattle.virial.specs.Answers.{card_steps, card_answer, card_accepted}
 use Rattle.virial.proofs.Wider.{temperature_in}
 use Rattle.virial.proofs.Covers.{covers_second, covers_third, covers_pressure}
 use Rattle.virial.proofs.Doubled.{second_handy, third-handy, pressure-handy}
 
 -- the three pairs of ends are those of the rules' brackets, and each covers its value
-pub record CardCovers (card : Card) (w : ℕ) (table : List ℕ) (t rho : Float) : Type 0 where
+pub record CardCovers (card : CardAnswer) (w : ℕ) (table : List ℕ) (t rho : Float) : Type 0 where
   pub second : Covers (card_second card) (coefficients w table (exact_of t)).second (second_at table (exact_of t))
   pub third : Covers (card_third card) (coefficients w table (exact_of t)).third (third_at table (exact_of t))
   pub pressure : Covers (card_pressure card) (pressure_of w (exact_of t) (exact_of rho) (coefficients w table (exact_of t))) (virial_pressure_at table (exact_of t) (exact_of rho))

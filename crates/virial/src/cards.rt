@@ -1,11 +1,10 @@
 // The vapour card: the checks 19 and 1 to 4, then the brackets of B, of C and of the pressure.
-ghost use Rattle.std.specs.Prelude.{◌≡◌, true, suc};
+ghost use Rattle.std.specs.Prelude.{◌≡◌, Ok, true, suc};
 ghost use Rattle.sheet.specs.Range.{Width};
 ghost use Rattle.term.specs.Sound.{sound_table};
 ghost use Rattle.verdict.specs.Handed.{Handy};
 ghost use Rattle.verdict.specs.Rules.{handed_out};
 ghost use Rattle.verdict.specs.Steps.{first_failing};
-ghost use Rattle.virial.specs.declared.Card.TheVariants.{Answered};
 ghost use Rattle.virial.specs.Answers.{card_inputs, card_accepted, CardStated};
 ghost use Rattle.virial.specs.Reading.{CardNumbers};
 
@@ -19,32 +18,34 @@ use verdict::{Refusal, State};
 // The ends of the three brackets.
 fn worked(second: Bracket, third: Bracket, pressure: Bracket) -> Card
     requires { Handy second × Handy third × Handy pressure }
-    ensures value { result ≡ Answered (handed_out second) (handed_out third) (handed_out pressure) }
-    ensures card_numbers { CardNumbers result }
+    ensures value { result ≡ record { second = handed_out second; third = handed_out third; pressure = handed_out pressure } }
+    ensures card_numbers { CardNumbers (Ok result) }
 {
-    let b = verdict::handed_out(second);
-    let c = verdict::handed_out(third);
-    let p = verdict::handed_out(pressure);
-    Card::Answered(b, c, p)
+    Card {
+        second: verdict::handed_out(second),
+        third: verdict::handed_out(third),
+        pressure: verdict::handed_out(pressure),
+    }
 }
 
 // 3 and 4, and what follows.
-fn screened(v: u64, table: &[u8], t: f64, rho: f64) -> Card
+fn screened(v: u64, table: &[u8], t: f64, rho: f64) -> Result<Card, Refusal>
     requires { Width v × (sound_table 38 table.now ≡ true) }
     ensures value { result ≡ first_failing (card_inputs t rho) (card_accepted (suc v) table.now t rho) }
     ensures card_numbers { CardNumbers result }
 {
     if !takes_temperature(t) {
-        return Card::Refused(Refusal::Temperature);
+        return Err(Refusal::Temperature);
     }
     if !takes_density(rho) {
-        return Card::Refused(Refusal::Density);
+        return Err(Refusal::Density);
     }
     let x = coefficients_of(v, table, t);
-    worked(x.second, x.third, pressure_of(v, t, rho, x))
+    let pressure = pressure_of(v, t, rho, x);
+    Ok(worked(x.second, x.third, pressure))
 }
 
-pub fn vapour_card(width: u64, table: &[u8], state: State) -> Card
+pub fn vapour_card(width: u64, table: &[u8], state: State) -> Result<Card, Refusal>
     ensures card_stated { CardStated width table.now state.temperature state.density result }
     ensures card_numbers { CardNumbers result }
     ensures table_stays { table.exit.now ≡ table.entry.now }
@@ -52,11 +53,11 @@ pub fn vapour_card(width: u64, table: &[u8], state: State) -> Card
     let t = state.temperature;
     let rho = state.density;
     if !verdict::sound_width(width) {
-        return Card::Refused(Refusal::Width);
+        return Err(Refusal::Width);
     }
     match term::check_table(38, table) {
-        Table::Length => Card::Refused(Refusal::TableLength),
-        Table::Broken(place) => Card::Refused(Refusal::BrokenTerm(place)),
+        Table::Length => Err(Refusal::TableLength),
+        Table::Broken(place) => Err(Refusal::BrokenTerm(place)),
         Table::Sound(_) => screened(width - 1, table, t, rho),
     }
 }

@@ -3,7 +3,7 @@
 #![tactic(auto)]
 
 use bracket::Bracket;
-use verdict::{Ends, Refusal};
+use verdict::Ends;
 
 mod profile; // profile.rt: which temperatures and densities the card takes
 mod sums; // sums.rt: sums of coefficient times tau^t over some of a table's terms
@@ -28,9 +28,10 @@ pub struct Coefficients {
     pub third: Bracket,
 }
 
-// What the vapour card answers: the brackets of B, of C and of the pressure.
+// What the vapour card hands out: the brackets of B, of C and of the pressure.
 #[derive(Clone, Copy)]
-pub enum Card {
-    Answered(Ends, Ends, Ends),
-    Refused(Refusal),
+pub struct Card {
+    pub second: Ends,
+    pub third: Ends,
+    pub pressure: Ends,
 }

@@ -16,20 +16,20 @@ use Rattle.equation.proofs.table.sums_of.Goals as goal
 
 pub loop-i-init : goal.loop-i-init
 loop-i-init c =
-    c.no_sums-s.ensures ∙ sums_first-none (suc c.args.v) (term_at c.args.kind c.args.table.now) c.delta.result c.tau.result
+    c.no_sums-s.ensures ∙ sums_first-none (suc c.args.v) (term_at c.args.table.kind c.args.table.bytes.now) c.delta.result c.tau.result
 
 pub add_term-s-requires-clause-reduced_in : goal.add_term-s-requires-clause-reduced_in
 add_term-s-requires-clause-reduced_in c =
-    let w = c.requires.width in
+    let w = c.requires in
     let d = subst (DeltaIn c.args.v) (sym c.delta.ensures) (delta-in w.0 (density-of c.args.rho w.2)) in
     let t = subst (TauIn c.args.v) (sym c.tau.ensures) (tau-in w.0 (temperature_of c.args.t w.1)) in
-    let sums = first_held c.args.kind c.args.table.now c.requires.table_sound _ _ d t c.loop-i.i (omega arith) in
+    let sums = first_held c.args.table.kind c.args.table.bytes.now c.args.table.sound _ _ d t c.loop-i.i (omega arith) in
     (record { delta = d; tau = t }, subst (AllHeld c.args.v) (sym c.loop-i.invariant) sums)
 
 pub loop-i-preserved : goal.loop-i-preserved
 loop-i-preserved c =
     let n = suc c.args.v in
-    let terms = term_at c.args.kind c.args.table.now in
+    let terms = term_at c.args.table.kind c.args.table.bytes.now in
     let d = c.delta.result in
     let t = c.tau.result in
     let i = c.loop-i.i in
@@ -38,8 +38,8 @@ loop-i-preserved c =
 pub returns : goal.returns
 returns c =
     let n = suc c.args.v in
-    let kind = c.args.kind in
-    let table = c.args.table.now in
+    let kind = c.args.table.kind in
+    let table = c.args.table.bytes.now in
     let i : c.loop-i.i ≡ count_terms kind table = omega arith in
     c.loop-i.invariant
     ∙ ap (λ (k : ℕ). sums_first n (term_at kind table) c.delta.result c.tau.result k) i

@@ -1,10 +1,10 @@
 -- `quick::answers::density_check` meets its contract. Assumes nothing.
+use Rattle.std.specs.Prelude.{Ok}
 use mathlib.Core.Path.{ap, ◌∙◌}
 use Prim.Native.Nat.{ℕ}
 use native.Mathlib.Omega.{arith}
 use Rattle.doubles.specs.Double.{exact_of}
 use Rattle.equation.specs.Rules.{pressure, stiffness, target_gap}
-use Rattle.verdict.specs.declared.Answer.TheVariants.{Accepted}
 use Rattle.verdict.specs.Steps.{first_failing}
 use Rattle.verdict.specs.Rules.{handed_out, density_worked}
 use Rattle.verdict.proofs.Tests.{passed, holds}
@@ -35,7 +35,7 @@ returns c =
     let kind = a.kind in
     let table = a.table.now in (
       c.density_worked.ensures.value
-          ∙ ap (λ (n : ℕ). first_failing (density_worked kind (pressure n kind table (exact_of t) (exact_of rho)) (target_gap n kind table (exact_of t) (exact_of rho) (exact_of a.target)) (stiffness n kind table (exact_of t) (exact_of rho)) a.tolerance) (Accepted (handed_out (pressure n kind table (exact_of t) (exact_of rho))))) (one_less a.width p.0.width_sound).1
+          ∙ ap (λ (n : ℕ). first_failing (density_worked kind (pressure n kind table (exact_of t) (exact_of rho)) (target_gap n kind table (exact_of t) (exact_of rho) (exact_of a.target)) (stiffness n kind table (exact_of t) (exact_of rho)) a.tolerance) (Ok (handed_out (pressure n kind table (exact_of t) (exact_of rho))))) (one_less a.width p.0.width_sound).1
           ∙ density_passed a.width kind table p.0 t rho a.target a.tolerance d.0 d.1 d.2 d.3,
       c.density_worked.ensures.answer_numbers,
     )

@@ -1,11 +1,11 @@
 -- `quick::answers::pair_check` meets its contract. Assumes nothing.
+use Rattle.std.specs.Prelude.{Ok}
 use mathlib.Core.Path.{ap, ◌∙◌}
 use Prim.Native.Nat.{ℕ}
 use native.Mathlib.Omega.{arith}
 use Rattle.exact.proofs.Fraction.Order.{≺→≼, ≺-trans}
 use Rattle.doubles.specs.Double.{exact_of}
 use Rattle.equation.specs.Rules.{pressure}
-use Rattle.verdict.specs.declared.Answer.TheVariants.{Accepted}
 use Rattle.verdict.specs.Steps.{first_failing}
 use Rattle.verdict.specs.Rules.{handed_out, pair_rest}
 use Rattle.verdict.proofs.Tests.{passed, holds, sides, above-triple_point, tolerance_finite}
@@ -48,7 +48,7 @@ returns c =
     let t = a.liquid.temperature in
     let l = a.liquid.density in (
       c.pair_worked.ensures.value
-          ∙ ap (λ (n : ℕ). first_failing (pair_rest n kind table t l a.vapour a.pressure_tolerance a.gibbs_tolerance) (Accepted (handed_out (pressure n kind table (exact_of t) (exact_of a.vapour))))) (one_less a.width p.0.width_sound).1
+          ∙ ap (λ (n : ℕ). first_failing (pair_rest n kind table t l a.vapour a.pressure_tolerance a.gibbs_tolerance) (Ok (handed_out (pressure n kind table (exact_of t) (exact_of a.vapour))))) (one_less a.width p.0.width_sound).1
           ∙ pair-passed a.width kind table p.0 t l a.vapour a.pressure_tolerance a.gibbs_tolerance x.hot x.dense x.thin x.near x.close x.apart,
       c.pair_worked.ensures.answer_numbers,
     )

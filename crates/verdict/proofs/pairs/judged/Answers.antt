@@ -1,19 +1,23 @@
 -- `verdict::pairs::judged` meets its contract. Assumes nothing.
+use Rattle.std.proofs.lemmas.Result.{err_from_is_err_and}
+use Rattle.std.specs.Prelude.{Err}
 use mathlib.Core.Path.{sym, ap, ◌∙◌}
-use Rattle.verdict.specs.declared.Answer.TheVariants.{VapourPressure, PressureGap}
+use Rattle.verdict.specs.declared.Rejection.TheVariants.{VapourPressure, PressureGap}
 use Rattle.verdict.proofs.Order.{on_pass, fails-at}
 use Rattle.verdict.proofs.Tests.{passed, failed}
 use Rattle.verdict.proofs.HandedOut.{numbers, zeros-numbers}
 use Rattle.verdict.proofs.pairs.judged.Goals as goal
 
-pub returns-then-not-both_under_ceiling : goal.returns-then-not-both_under_ceiling
-returns-then-not-both_under_ceiling c = record { value = sym (fails-at 0 _ _ (failed c.both_under_ceiling.ensures c.if-not-both_under_ceiling.true)); answer_numbers = zeros-numbers }
+pub returns-in_err-unless : goal.returns-in_err-unless
+returns-in_err-unless c =
+    let p = err_from_is_err_and c.from_residual.result c.from_residual.ensures.1 in
+    rw (p.1, p.2, c.in_err-unless.ensures.1) (record { value = sym (fails-at 0 _ _ (failed c.both_under_ceiling.ensures c.in_err-unless.ensures.0)); answer_numbers = zeros-numbers })
 
 pub returns-then-not-pushes_back : goal.returns-then-not-pushes_back
-returns-then-not-pushes_back c = record { value = ap VapourPressure c.handed_out.ensures.0 ∙ sym (fails-at 1 _ _ (passed c.both_under_ceiling.ensures c.if-not-both_under_ceiling.false, failed c.pushes_back.ensures c.if-not-pushes_back.true)); answer_numbers = numbers _ c.handed_out.ensures.1 }
+returns-then-not-pushes_back c = record { value = ap (λ e. Err (VapourPressure e)) c.handed_out.ensures.0 ∙ sym (fails-at 1 _ _ (passed c.both_under_ceiling.ensures c.in_ok-unless.ensures, failed c.pushes_back.ensures c.if-not-pushes_back.true)); answer_numbers = numbers _ c.handed_out.ensures.1 }
 
 pub returns-then-not-gap_passes : goal.returns-then-not-gap_passes
-returns-then-not-gap_passes c = record { value = ap PressureGap c.handed_out-then-not-gap_passes.ensures.0 ∙ sym (fails-at 2 _ _ (passed c.both_under_ceiling.ensures c.if-not-both_under_ceiling.false, (passed c.pushes_back.ensures c.if-not-pushes_back.false, failed c.gap_passes.ensures c.if-not-gap_passes.true))); answer_numbers = numbers _ c.handed_out-then-not-gap_passes.ensures.1 }
+returns-then-not-gap_passes c = record { value = ap (λ e. Err (PressureGap e)) c.handed_out-then-not-gap_passes.ensures.0 ∙ sym (fails-at 2 _ _ (passed c.both_under_ceiling.ensures c.in_ok-unless.ensures, (passed c.pushes_back.ensures c.if-not-pushes_back.false, failed c.gap_passes.ensures c.if-not-gap_passes.true))); answer_numbers = numbers _ c.handed_out-then-not-gap_passes.ensures.1 }
 
 pub returns : goal.returns
-returns c = record { value = c.balanced.ensures.value ∙ sym (on_pass _ _ _ (passed c.both_under_ceiling.ensures c.if-not-both_under_ceiling.false) ∙ on_pass _ _ _ (passed c.pushes_back.ensures c.if-not-pushes_back.false) ∙ on_pass _ _ _ (passed c.gap_passes.ensures c.if-not-gap_passes.false)); answer_numbers = c.balanced.ensures.answer_numbers }
+returns c = record { value = c.balanced.ensures.value ∙ sym (on_pass _ _ _ (passed c.both_under_ceiling.ensures c.in_ok-unless.ensures) ∙ on_pass _ _ _ (passed c.pushes_back.ensures c.if-not-pushes_back.false) ∙ on_pass _ _ _ (passed c.gap_passes.ensures c.if-not-gap_passes.false)); answer_numbers = c.balanced.ensures.answer_numbers }

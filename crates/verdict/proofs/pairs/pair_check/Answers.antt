@@ -1,55 +1,19 @@
 -- `verdict::pairs::pair_check` meets its contract. Assumes nothing.
-use Prim.Native.Nat.{ℕ}
-use mathlib.Core.Path.{refl, sym, ap, ◌∙◌}
-use native.Mathlib.Omega.{arith}
-use Rattle.doubles.specs.Double.{exact_of}
-use Rattle.equation.specs.Rules.{pressure}
-use Rattle.term.proofs.Answers.{answer-sound}
-use Rattle.verdict.specs.declared.Answer.TheVariants.{Accepted, Refused}
-use Rattle.verdict.specs.Steps.{first_failing}
-use Rattle.verdict.specs.Rules.{handed_out, pair_inputs, pair_answer}
-use Rattle.verdict.proofs.Order.{fails-at, on_pass}
-use Rattle.verdict.proofs.Tests.{passed, failed}
+use Rattle.std.proofs.lemmas.Result.{err_from_is_err_and}
+use mathlib.Core.Path.{refl, sym, ◌∙◌}
+use Rattle.verdict.specs.Rules.{pair_answer, rejected}
 use Rattle.verdict.proofs.HandedOut.{zeros-numbers}
-use Rattle.verdict.proofs.Tables.{on_length, on_broken, on_sound}
-use Rattle.verdict.proofs.EitherWidth.{one_less}
+use Rattle.verdict.proofs.Tables.{on_refusal, on_none}
 use Rattle.verdict.proofs.pairs.pair_check.Goals as goal
 
-pub returns-then-not-sound_width : goal.returns-then-not-sound_width
+pub returns-in_err-setting : goal.returns-in_err-setting
 unfolding pair_answer
-returns-then-not-sound_width c = record { pair_stated = sym (fails-at 0 _ _ (failed c.sound_width.ensures c.if-not-sound_width.true)); answer_numbers = zeros-numbers; table_stays = refl }
+returns-in_err-setting c =
+    let p = err_from_is_err_and c.from_residual.result c.from_residual.ensures.1 in
+    rw (p.1, p.2) (record { pair_stated = on_refusal rejected _ _ _ _ _ _ c.in_err-setting.ensures; answer_numbers = zeros-numbers; table_stays = refl })
 
-pub returns-then-not-sound_kind : goal.returns-then-not-sound_kind
+pub returns : goal.returns
 unfolding pair_answer
-returns-then-not-sound_kind c = record { pair_stated = sym (fails-at 1 _ _ (passed c.sound_width.ensures c.if-not-sound_width.false, failed c.sound_kind.ensures c.if-not-sound_kind.true)); answer_numbers = zeros-numbers; table_stays = refl }
-
-pub overflow_sub-width : goal.overflow_sub-width
-overflow_sub-width c = omega (arith, (one_less _ (passed c.sound_width.ensures c.if-not-sound_width.false)).1)
-
-pub screened-requires : goal.screened-requires
-screened-requires c = ((one_less _ (passed c.sound_width.ensures c.if-not-sound_width.false)).0, (answer-sound _ _ _ (sym c.check_table.ensures.0 ∙ c.in-Sound.is)).0)
-
-pub returns-in-Length : goal.returns-in-Length
-unfolding pair_answer
-returns-in-Length c = record { pair_stated = on_length Refused _ _ _ _ (sym c.check_table.ensures.0 ∙ c.in-Length.is) ∙ sym (on_pass _ _ _ (passed c.sound_width.ensures c.if-not-sound_width.false) ∙ on_pass _ _ _ (passed c.sound_kind.ensures c.if-not-sound_kind.false)); answer_numbers = zeros-numbers; table_stays = refl }
-
-pub returns-in-Broken : goal.returns-in-Broken
-unfolding pair_answer
-returns-in-Broken c = record { pair_stated = on_broken Refused _ _ _ _ _ (sym c.check_table.ensures.0 ∙ c.in-Broken.is) ∙ sym (on_pass _ _ _ (passed c.sound_width.ensures c.if-not-sound_width.false) ∙ on_pass _ _ _ (passed c.sound_kind.ensures c.if-not-sound_kind.false)); answer_numbers = zeros-numbers; table_stays = refl }
-
-pub returns-in-Sound : goal.returns-in-Sound
-unfolding pair_answer
-returns-in-Sound c =
-    let a = c.args in
-    let p = passed c.sound_width.ensures c.if-not-sound_width.false in
-    let kind = a.kind in
-    let table = a.table.now in
-    let t = a.liquid.temperature in
-    let vapour = a.vapour in
-    let sound = (answer-sound _ _ _ (sym c.check_table.ensures.0 ∙ c.in-Sound.is)).0 in record {
-      pair_stated = c.screened.ensures.value
-          ∙ ap (λ (n : ℕ). first_failing (pair_inputs n kind table t a.liquid.density vapour a.pressure_tolerance a.gibbs_tolerance) (Accepted (handed_out (pressure n kind table (exact_of t) (exact_of vapour))))) (one_less a.width p).1
-          ∙ sym (on_pass _ _ _ p ∙ on_pass _ _ _ (passed c.sound_kind.ensures c.if-not-sound_kind.false) ∙ on_sound Refused _ _ _ _ sound);
-      answer_numbers = c.screened.ensures.answer_numbers;
-      table_stays = refl;
-    }
+returns c =
+    let s = c.in_ok-setting.ensures in
+    record { pair_stated = (rw (s.1, s.2, s.3) at c.screened.ensures.value) ∙ sym (on_none rejected _ _ _ _ _ s.0); answer_numbers = c.screened.ensures.answer_numbers; table_stays = refl }

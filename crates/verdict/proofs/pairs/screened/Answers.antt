@@ -1,4 +1,5 @@
 -- `verdict::pairs::screened` meets its contract. Assumes nothing.
+use Rattle.std.proofs.lemmas.Result.{err_from_is_err_and}
 use mathlib.Core.Path.{sym, ◌∙◌}
 use Rattle.exact.proofs.Fraction.Order.{≺→≼, ≺-trans}
 use Rattle.doubles.specs.Range.{accepted_density, accepted_tolerance}
@@ -7,34 +8,42 @@ use Rattle.verdict.proofs.Tests.{both, holds, passed, failed, above-triple_point
 use Rattle.verdict.proofs.HandedOut.{zeros-numbers}
 use Rattle.verdict.proofs.pairs.screened.Goals as goal
 
-pub returns-then-not-accepts_pair_temperature : goal.returns-then-not-accepts_pair_temperature
-returns-then-not-accepts_pair_temperature c = record { value = sym (fails-at 0 _ _ (failed c.accepts_pair_temperature.ensures c.if-not-accepts_pair_temperature.true)); answer_numbers = zeros-numbers }
+pub returns-in_err-unless : goal.returns-in_err-unless
+returns-in_err-unless c =
+    let p = err_from_is_err_and c.from_residual.result c.from_residual.ensures.1 in
+    rw (p.1, p.2, c.in_err-unless.ensures.1) (record { value = sym (fails-at 0 _ _ (failed c.accepts_pair_temperature.ensures c.in_err-unless.ensures.0)); answer_numbers = zeros-numbers })
 
-pub returns-then-not-accepts_densities : goal.returns-then-not-accepts_densities
-returns-then-not-accepts_densities c = record { value = sym (fails-at 1 _ _ (passed c.accepts_pair_temperature.ensures c.if-not-accepts_pair_temperature.false, failed c.accepts_densities.ensures c.if-not-accepts_densities.true)); answer_numbers = zeros-numbers }
+pub returns-in_err-unless-2 : goal.returns-in_err-unless-2
+returns-in_err-unless-2 c =
+    let p = err_from_is_err_and c.from_residual-in_err-unless-2.result c.from_residual-in_err-unless-2.ensures.1 in
+    rw (p.1, p.2, c.in_err-unless-2.ensures.1) (record { value = sym (fails-at 1 _ _ (passed c.accepts_pair_temperature.ensures c.in_ok-unless.ensures, failed c.accepts_densities.ensures c.in_err-unless-2.ensures.0)); answer_numbers = zeros-numbers })
 
-pub returns-then-not-accepts_tolerances : goal.returns-then-not-accepts_tolerances
-returns-then-not-accepts_tolerances c = record { value = sym (fails-at 2 _ _ (passed c.accepts_pair_temperature.ensures c.if-not-accepts_pair_temperature.false, (passed c.accepts_densities.ensures c.if-not-accepts_densities.false, failed c.accepts_tolerances.ensures c.if-not-accepts_tolerances.true))); answer_numbers = zeros-numbers }
+pub returns-in_err-unless-3 : goal.returns-in_err-unless-3
+returns-in_err-unless-3 c =
+    let p = err_from_is_err_and c.from_residual-in_err-unless-3.result c.from_residual-in_err-unless-3.ensures.1 in
+    rw (p.1, p.2, c.in_err-unless-3.ensures.1) (record { value = sym (fails-at 2 _ _ (passed c.accepts_pair_temperature.ensures c.in_ok-unless.ensures, (passed c.accepts_densities.ensures c.in_ok-unless-2.ensures, failed c.accepts_tolerances.ensures c.in_err-unless-3.ensures.0))); answer_numbers = zeros-numbers })
 
 pub on_sides-requires : goal.on_sides-requires
 on_sides-requires c =
     let a = c.args in
-    let d = both (accepted_density a.kind a.liquid) (accepted_density a.kind a.vapour) (passed c.accepts_densities.ensures c.if-not-accepts_densities.false) in
-    (density_finite a.kind a.liquid (holds d.0), density_finite a.kind a.vapour (holds d.1))
+    let kind = a.setting.table.kind in
+    let d = both (accepted_density kind a.liquid.density) (accepted_density kind a.vapour) (passed c.accepts_densities.ensures c.in_ok-unless-2.ensures) in
+    (density_finite kind a.liquid.density (holds d.0), density_finite kind a.vapour (holds d.1))
 
-pub returns-then-not-on_sides : goal.returns-then-not-on_sides
-returns-then-not-on_sides c = record { value = sym (fails-at 3 _ _ (passed c.accepts_pair_temperature.ensures c.if-not-accepts_pair_temperature.false, (passed c.accepts_densities.ensures c.if-not-accepts_densities.false, (passed c.accepts_tolerances.ensures c.if-not-accepts_tolerances.false, failed c.on_sides.ensures c.if-not-on_sides.true)))); answer_numbers = zeros-numbers }
+pub returns-in_err-unless-4 : goal.returns-in_err-unless-4
+returns-in_err-unless-4 c =
+    let p = err_from_is_err_and c.from_residual-in_err-unless-4.result c.from_residual-in_err-unless-4.ensures.1 in
+    rw (p.1, p.2, c.in_err-unless-4.ensures.1) (record { value = sym (fails-at 3 _ _ (passed c.accepts_pair_temperature.ensures c.in_ok-unless.ensures, (passed c.accepts_densities.ensures c.in_ok-unless-2.ensures, (passed c.accepts_tolerances.ensures c.in_ok-unless-3.ensures, failed c.on_sides.ensures c.in_err-unless-4.ensures.0)))); answer_numbers = zeros-numbers })
 
 pub worked-requires : goal.worked-requires
 worked-requires c =
     let a = c.args in
-    let d = both (accepted_density a.kind a.liquid) (accepted_density a.kind a.vapour) (passed c.accepts_densities.ensures c.if-not-accepts_densities.false) in
-    let near = both (accepted_tolerance a.pressure_tolerance) (accepted_tolerance a.gibbs_tolerance) (passed c.accepts_tolerances.ensures c.if-not-accepts_tolerances.false) in
-    let apart = sides a.liquid a.vapour (passed c.on_sides.ensures c.if-not-on_sides.false) in
+    let kind = a.setting.table.kind in
+    let d = both (accepted_density kind a.liquid.density) (accepted_density kind a.vapour) (passed c.accepts_densities.ensures c.in_ok-unless-2.ensures) in
+    let near = both (accepted_tolerance a.pressure_tolerance) (accepted_tolerance a.gibbs_tolerance) (passed c.accepts_tolerances.ensures c.in_ok-unless-3.ensures) in
+    let apart = sides a.liquid.density a.vapour (passed c.on_sides.ensures c.in_ok-unless-4.ensures) in
     record {
-      width = c.requires.0;
-      table_sound = c.requires.1;
-      temperature = above-triple_point a.kind a.t (passed c.accepts_pair_temperature.ensures c.if-not-accepts_pair_temperature.false);
+      temperature = above-triple_point kind a.liquid.temperature (passed c.accepts_pair_temperature.ensures c.in_ok-unless.ensures);
       liquid_density = holds d.0;
       vapour_density = holds d.1;
       pressure-tolerance = tolerance_finite a.pressure_tolerance (holds near.0);
@@ -46,9 +55,9 @@ pub returns : goal.returns
 returns c = record {
   value = c.worked.ensures.value
       ∙ sym
-      (on_pass _ _ _ (passed c.accepts_pair_temperature.ensures c.if-not-accepts_pair_temperature.false)
-      ∙ on_pass _ _ _ (passed c.accepts_densities.ensures c.if-not-accepts_densities.false)
-      ∙ on_pass _ _ _ (passed c.accepts_tolerances.ensures c.if-not-accepts_tolerances.false)
-      ∙ on_pass _ _ _ (passed c.on_sides.ensures c.if-not-on_sides.false));
+      (on_pass _ _ _ (passed c.accepts_pair_temperature.ensures c.in_ok-unless.ensures)
+      ∙ on_pass _ _ _ (passed c.accepts_densities.ensures c.in_ok-unless-2.ensures)
+      ∙ on_pass _ _ _ (passed c.accepts_tolerances.ensures c.in_ok-unless-3.ensures)
+      ∙ on_pass _ _ _ (passed c.on_sides.ensures c.in_ok-unless-4.ensures));
   answer_numbers = c.worked.ensures.answer_numbers;
 }

@@ -1,4 +1,5 @@
 -- `virial::cards::vapour_card` meets its contract. Assumes nothing.
+use Rattle.std.specs.Prelude.{Err}
 use Prim.Native.Nat.{ℕ}
 use mathlib.Core.Path.{refl, sym, ap, ◌∙◌}
 use native.Mathlib.Omega.{arith}
@@ -9,7 +10,6 @@ use Rattle.verdict.proofs.Tests.{passed, failed}
 use Rattle.verdict.proofs.HandedOut.{zeros-numbers}
 use Rattle.verdict.proofs.Tables.{on_length, on_broken, on_sound}
 use Rattle.verdict.proofs.EitherWidth.{one_less}
-use Rattle.virial.specs.declared.Card.TheVariants.{Refused}
 use Rattle.virial.specs.Answers.{card_inputs, card_accepted, card_answer}
 use Rattle.virial.proofs.cards.vapour_card.Goals as goal
 
@@ -25,11 +25,11 @@ screened-requires c = ((one_less _ (passed c.sound_width.ensures c.if-not-sound_
 
 pub returns-in-Length : goal.returns-in-Length
 unfolding card_answer
-returns-in-Length c = record { card_stated = on_length Refused _ _ _ _ (sym c.check_table.ensures.0 ∙ c.in-Length.is) ∙ sym (on_pass _ _ _ (passed c.sound_width.ensures c.if-not-sound_width.false)); card_numbers = (zeros-numbers, zeros-numbers, zeros-numbers); table_stays = refl }
+returns-in-Length c = record { card_stated = on_length Err _ _ _ _ (sym c.check_table.ensures.0 ∙ c.in-Length.is) ∙ sym (on_pass _ _ _ (passed c.sound_width.ensures c.if-not-sound_width.false)); card_numbers = (zeros-numbers, zeros-numbers, zeros-numbers); table_stays = refl }
 
 pub returns-in-Broken : goal.returns-in-Broken
 unfolding card_answer
-returns-in-Broken c = record { card_stated = on_broken Refused _ _ _ _ _ (sym c.check_table.ensures.0 ∙ c.in-Broken.is) ∙ sym (on_pass _ _ _ (passed c.sound_width.ensures c.if-not-sound_width.false)); card_numbers = (zeros-numbers, zeros-numbers, zeros-numbers); table_stays = refl }
+returns-in-Broken c = record { card_stated = on_broken Err _ _ _ _ _ (sym c.check_table.ensures.0 ∙ c.in-Broken.is) ∙ sym (on_pass _ _ _ (passed c.sound_width.ensures c.if-not-sound_width.false)); card_numbers = (zeros-numbers, zeros-numbers, zeros-numbers); table_stays = refl }
 
 pub returns-in-Sound : goal.returns-in-Sound
 unfolding card_answer
@@ -42,7 +42,7 @@ returns-in-Sound c =
     let sound = (answer-sound _ _ _ (sym c.check_table.ensures.0 ∙ c.in-Sound.is)).0 in record {
       card_stated = c.screened.ensures.value
           ∙ ap (λ (n : ℕ). first_failing (card_inputs t rho) (card_accepted n table t rho)) (one_less a.width p).1
-          ∙ sym (on_pass _ _ _ p ∙ on_sound Refused _ _ _ _ sound);
+          ∙ sym (on_pass _ _ _ p ∙ on_sound Err _ _ _ _ sound);
       card_numbers = c.screened.ensures.card_numbers;
       table_stays = refl;
     }
