@@ -28,6 +28,7 @@ use Rattle.measure.proofs.Lift.{each_map}
 use Rattle.measure.proofs.Measure.{digited_sized}
 use Rattle.measure.proofs.Sizes.{Positive, Plus, plus-positive, digits-sized, held_of, given_plus, power-plus, times-sized}
 use Rattle.equation.specs.Ranged.{HeldAs, DeltaIn, TauIn, GIn, EIn, VIn, WIn}
+use Rattle.equation.specs.Value.{Valued}
 use Rattle.equation.specs.Constants.{critical_temperature, gas_constant, hundredths, exact_coefficient}
 use Rattle.equation.specs.Accepted.{Temperature, Density}
 use Rattle.equation.specs.Rules.{delta, tau, coefficient, scaled, g_of, clipped, factor_e, term_v, term_w, factor_w, factor_s2}
@@ -107,6 +108,17 @@ module _ {v : ℕ} (a b : Bracket) (p : DeltaIn v a) (q : TauIn v b) (term : Ter
 
   pub by_tau_held : Held v (times (suc v) (ends (times (suc v) (ends (coefficient (suc v) term)) (ends (power (suc v) a term.d)))) (ends (power (suc v) b term.t)))
   by_tau_held = let r = room in combined-held (delta-width a p) ◌⊗◌ _ _ (omega arith) (omega arith) (coefficient-delta-tau v 589 (omega arith) term s a powers b q.each)
+
+  pub term-valued : {e : Bracket} → EIn v e → Valued v (coefficient (suc v) term) (power (suc v) a term.d) (power (suc v) b term.t) e
+  term-valued i =
+      record {
+        coefficient_held = coefficient_held (delta-width a p) term s;
+        delta_held = delta-power_held a p term.d s.d_most;
+        by-delta = by_delta-held;
+        tau_held = tau-power_held b q term.t s.t_most;
+        by-tau = by_tau_held;
+        e_held = i.held;
+      }
 
   pub v_in : (e : Bracket) → EIn v e → VIn v (term_v (suc v) term a b e)
   unfolding term_v

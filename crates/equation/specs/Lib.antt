@@ -2,6 +2,7 @@
 pub mod Constants
 pub mod Itself
 pub mod Rules
+pub mod Value
 pub mod Clip
 pub mod Plain
 pub mod Accepted

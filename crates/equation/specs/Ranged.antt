@@ -9,6 +9,7 @@ use Rattle.bracket.specs.Rules.{ends}
 use Rattle.bracket.specs.Held.{Held}
 use Rattle.measure.specs.Measure.{Sized, Digited}
 use Rattle.measure.proofs.Sizes.{Summed, Plus}
+use Rattle.equation.specs.declared.Reduced.{Reduced}
 use Rattle.equation.specs.declared.Sums.{Sums}
 
 -- from 0 to a whole number
@@ -35,6 +36,11 @@ pub record DeltaIn (v : ℕ) (delta : Bracket) : Type 0 where
 -- from 2^-2 to 2^3
 abbrev pub TauIn : ℕ → Bracket → Type 0
 TauIn v tau = HeldAs v (Plus v (bias - 2) (bias + 3)) tau
+
+-- what the terms take of a state
+pub record ReducedIn (v : ℕ) (x : Reduced) : Type 0 where
+  pub delta : DeltaIn v x.delta
+  pub tau : TauIn v x.tau
 
 -- g: from 2^-292 to 2^64
 abbrev pub GIn : ℕ → Bracket → Type 0

@@ -1,24 +1,33 @@
-// One term's addends of the three sums, by its fields, delta and tau.
+// One term's addends of the three sums, by its fields and a state.
 ghost use Rattle.std.specs.Prelude.{◌≡◌, suc, ◌<◌, ◌≤◌, ◌*◌};
 ghost use Rattle.term.specs.Bounds.{Bounds};
 ghost use Rattle.equation.specs.Rules.{term_v, term_w, factor_w, factor_s2, addends_of, addends};
-ghost use Rattle.equation.specs.Ranged.{DeltaIn, TauIn, GIn, EIn, VIn, WIn};
+ghost use Rattle.equation.specs.Value.{value_by, Valued};
+ghost use Rattle.equation.specs.Ranged.{ReducedIn, GIn, EIn, VIn, WIn};
 
 use crate::exponent::{factor_e, factor_g};
-use crate::{Sums, inputs};
+use crate::{Reduced, Sums, inputs};
 use bracket::Bracket;
 use term::Term;
 
-fn term_v(v: u64, term: Term, delta: Bracket, tau: Bracket, e: Bracket) -> Bracket
-    requires { (Bounds term × DeltaIn v delta) × (TauIn v tau × EIn v e) }
-    ensures { result ≡ term_v (suc v) term delta tau e }
+// V by its parts: the coefficient times the powers of delta and tau, times E.
+pub fn value(v: u64, coefficient: Bracket, delta: Bracket, tau: Bracket, e: Bracket) -> Bracket
+    requires { Valued v coefficient delta tau e }
+    ensures { result ≡ value_by (suc v) coefficient delta tau e }
 {
-    let d = term.d;
-    let t = term.t;
-    let coefficient = inputs::coefficient(v, term);
-    let by_delta = bracket::product(v, coefficient, bracket::power(v, delta, d));
-    let by_tau = bracket::product(v, by_delta, bracket::power(v, tau, t));
+    let by_delta = bracket::product(v, coefficient, delta);
+    let by_tau = bracket::product(v, by_delta, tau);
     bracket::product(v, by_tau, e)
+}
+
+fn term_v(v: u64, term: Term, x: Reduced, e: Bracket) -> Bracket
+    requires { Bounds term × ReducedIn v x × EIn v e }
+    ensures { result ≡ term_v (suc v) term x.delta x.tau e }
+{
+    let coefficient = inputs::coefficient(v, term);
+    let delta = bracket::power(v, x.delta, term.d);
+    let tau = bracket::power(v, x.tau, term.t);
+    value(v, coefficient, delta, tau, e)
 }
 
 // For c = 0 it is d.
@@ -64,13 +73,11 @@ fn addends_of(v: u64, c: u64, g: Bracket, tv: Bracket, tw: Bracket) -> Sums
     Sums { s0: tv, s1, s2 }
 }
 
-pub fn addends(v: u64, term: Term, delta: Bracket, tau: Bracket) -> Sums
-    requires { Bounds term × (DeltaIn v delta × TauIn v tau) }
-    ensures { result ≡ addends (suc v) term delta tau }
+pub fn addends(v: u64, term: Term, x: Reduced) -> Sums
+    requires { Bounds term × ReducedIn v x }
+    ensures { result ≡ addends (suc v) term x.delta x.tau }
 {
-    let c = term.c;
-    let d = term.d;
-    let g = factor_g(v, term, delta);
-    let tv = term_v(v, term, delta, tau, factor_e(v, c, g));
-    addends_of(v, c, g, tv, term_w(v, d, c, g))
+    let g = factor_g(v, term, x.delta);
+    let tv = term_v(v, term, x, factor_e(v, term.c, g));
+    addends_of(v, term.c, g, tv, term_w(v, term.d, term.c, g))
 }

@@ -17,10 +17,7 @@ pub fn scale(v: u64, c: u64, factor: u64, power: Bracket) -> Bracket
     requires { Held v power × ((0 < c → 0 < factor) × (factor ≤ 1023)) }
     ensures { result ≡ scaled (suc v) c factor power }
 {
-    if c == 0 {
-        return power;
-    }
-    if factor == 100 {
+    if c == 0 || factor == 100 {
         return power;
     }
     bracket::product(v, bracket::given_ratio(v, false, factor, 100), power)
@@ -31,12 +28,11 @@ pub fn factor_g(v: u64, term: Term, delta: Bracket) -> Bracket
     requires { Bounds term × DeltaIn v delta }
     ensures { result ≡ g_of (suc v) term.c term.factor delta }
 {
-    let c = term.c;
-    let factor = term.factor;
-    scale(v, c, factor, bracket::power(v, delta, c))
+    scale(v, term.c, term.factor, bracket::power(v, delta, term.c))
 }
 
 // The smaller of 128 and g's lower end.
+// Stays: no `min`, which asks for an order on `Sheet` that agrees with `==`, and one number may be spelled in several ways.
 fn clip_at(v: u64, g: Bracket) -> Sheet
     requires { GIn v g }
     ensures { result ≡ clip_at (suc v) g }
@@ -51,9 +47,7 @@ fn within(v: u64, g: Bracket) -> bool
     requires { GIn v g }
     ensures { result ≡ leq (value g.hi) (nat 128) }
 {
-    let limit = sheet::whole(v, 128);
-    let hi = g.hi;
-    sheet::at_most(hi, limit)
+    sheet::at_most(g.hi, sheet::whole(v, 128))
 }
 
 // What the exponential is taken of: all of g, or the clip's point.
@@ -75,13 +69,10 @@ fn started(e: Bracket, all: bool) -> Bracket
     if all {
         return e;
     }
-    let lo = Sheet {
-        neg: false,
-        m: 0,
-        e: 0,
-    };
-    let hi = e.hi;
-    Bracket { lo, hi }
+    Bracket {
+        lo: Sheet::ZERO,
+        hi: e.hi,
+    }
 }
 
 // For c = 0 there is no exponential. It is called in one place, clipped or not: that keeps kind 38 as fast as without the clip.

@@ -4,6 +4,8 @@ ghost use Rattle.sheet.specs.Range.{Width};
 ghost use Rattle.kind.specs.Kind.{widest};
 ghost use Rattle.doubles.specs.Double.{exact_of};
 ghost use Rattle.doubles.specs.Range.{accepted_temperature, accepted_density};
+ghost use Rattle.bracket.specs.Rules.{given};
+ghost use Rattle.equation.specs.Constants.{gas_constant};
 ghost use Rattle.equation.specs.Rules.{delta, tau, coefficient, gas_heat};
 
 use bracket::Bracket;
@@ -35,11 +37,18 @@ pub fn coefficient(v: u64, term: Term) -> Bracket
     bracket::given_ratio(v, term.negative, term.magnitude, 10_000_000_000_000_000)
 }
 
+// R
+pub fn gas(v: u64) -> Bracket
+    requires { Width v }
+    ensures { result ≡ given (suc v) gas_constant }
+{
+    bracket::given_ratio(v, false, 46151805, 100000)
+}
+
 pub fn gas_heat(v: u64, t: f64) -> Bracket
     requires { Width v × T (accepted_temperature widest t) }
     ensures { result ≡ gas_heat (suc v) (exact_of t) }
 {
-    let gas = bracket::given_ratio(v, false, 46151805, 100000);
     let temperature = bracket::given(v, t);
-    bracket::product(v, gas, temperature)
+    bracket::product(v, gas(v), temperature)
 }

@@ -10,13 +10,20 @@ mod addends; // addends.rt: one term's addends of the three sums
 mod table; // table.rt: the sums over a table
 mod states; // states.rt: pressure, stiffness, Gibbs gap and the gaps
 
-pub use addends::{factor_s2, term_w};
+pub use addends::{factor_s2, term_w, value};
 pub use exponent::{factor_e, scale};
 pub use inputs::{coefficient, delta, tau};
 pub use states::{
     density_heat, gibbs_gap_of, pressure_gap_of, pressure_of, stiffness_of, target_gap_of,
 };
 pub use table::{no_sums, sums_of};
+
+// A state as the terms take it.
+#[derive(Clone, Copy)]
+struct Reduced {
+    delta: Bracket,
+    tau: Bracket,
+}
 
 // The three sums over a table's terms, or one term's addends.
 #[derive(Clone, Copy)]

@@ -19,9 +19,8 @@ pub fn density_heat(v: u64, t: f64, rho: f64) -> Bracket
     ensures { result ≡ density_heat (suc v) (exact_of t) (exact_of rho) }
 {
     let density = bracket::given(v, rho);
-    let gas = bracket::given_ratio(v, false, 46151805, 100000);
     let temperature = bracket::given(v, t);
-    bracket::product(v, bracket::product(v, density, gas), temperature)
+    bracket::product(v, bracket::product(v, density, inputs::gas(v)), temperature)
 }
 
 // 1 + S1

@@ -6,10 +6,10 @@ ghost use Rattle.doubles.specs.Double.{exact_of};
 ghost use Rattle.doubles.specs.Range.{accepted_temperature, accepted_density};
 ghost use Rattle.term.specs.Packed.{term_at, count_terms};
 ghost use Rattle.equation.specs.Rules.{addends, plus_each, no_sums, sums};
-ghost use Rattle.equation.specs.Ranged.{DeltaIn, TauIn, AllHeld};
+ghost use Rattle.equation.specs.Ranged.{ReducedIn, AllHeld};
 
 use crate::addends::addends;
-use crate::{Sums, inputs};
+use crate::{Reduced, Sums, inputs};
 use bracket::Bracket;
 use term::SoundTable;
 
@@ -36,12 +36,12 @@ fn plus_each(v: u64, s: Sums, a: Sums) -> Sums
 }
 
 // The sums with the addends of the k-th term.
-fn add_term(v: u64, table: SoundTable, k: usize, delta: Bracket, tau: Bracket, s: Sums) -> Sums
+fn add_term(v: u64, table: SoundTable, k: usize, x: Reduced, s: Sums) -> Sums
     requires k_below { k < count_terms table.kind table.bytes.now }
-    requires delta_in { DeltaIn v delta × TauIn v tau × AllHeld v s }
-    ensures { result ≡ plus_each (suc v) s (addends (suc v) (term_at table.entry.kind table.entry.bytes.now k) delta tau) }
+    requires reduced_in { ReducedIn v x × AllHeld v s }
+    ensures { result ≡ plus_each (suc v) s (addends (suc v) (term_at table.entry.kind table.entry.bytes.now k) x.delta x.tau) }
 {
-    let a = addends(v, table.at(k), delta, tau);
+    let a = addends(v, table.at(k), x);
     plus_each(v, s, a)
 }
 
@@ -49,11 +49,13 @@ pub fn sums_of(v: u64, table: SoundTable, t: f64, rho: f64) -> Sums
     requires { Width v × T (accepted_temperature widest t) × T (accepted_density widest rho) }
     ensures { result ≡ sums (suc v) table.entry.kind table.entry.bytes.now (exact_of t) (exact_of rho) }
 {
-    let delta = inputs::delta(v, rho);
-    let tau = inputs::tau(v, t);
+    let x = Reduced {
+        delta: inputs::delta(v, rho),
+        tau: inputs::tau(v, t),
+    };
     let mut s = no_sums(v);
     for i in 0..table.count() {
-        s = add_term(v, table, i, delta, tau, s);
+        s = add_term(v, table, i, x, s);
     }
     s
 }

@@ -10,5 +10,4 @@ pub mod Passed
 pub mod Shared
 pub mod Passing
 pub mod Stated
-pub mod Over
 pub mod Same

@@ -19,7 +19,8 @@ use Rattle.equation.proofs.Holds.{delta-power_held, term-g_in}
 use Rattle.quick.specs.declared.ready.Row.{Row}
 use Rattle.quick.specs.Powers.{nothing}
 use Rattle.quick.specs.Ready.{no_row, RowsTo}
-use Rattle.quick.specs.Kept.{Kept, weighed_by, kept_of, addends_by, Keepable, Addable}
+use Rattle.quick.specs.declared.kept.Kept.{Kept}
+use Rattle.quick.specs.Kept.{weighed_by, kept_of, addends_by, Keepable, Addable}
 use Rattle.quick.proofs.Filled.{over-or_less}
 use Rattle.quick.proofs.Shared.{addends-by, term-addable}
 

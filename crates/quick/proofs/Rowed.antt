@@ -5,21 +5,21 @@ use mathlib.Core.List.{List}
 use Prim.Native.Nat.{ℕ, ◌≤◌, ◌<◌}
 use native.Mathlib.Nat.{le_refl, lt_of_le_of_lt}
 use native.Mathlib.Omega.{arith}
-use lib.ListN.{get_or}
+use lib.ListN.{length, get_or}
 use lib.Ieee.{Float}
 use Rattle.doubles.specs.Double.{exact_of}
 use Rattle.term.specs.declared.Term.{Term}
-use Rattle.term.specs.Packed.{term_at, count_terms}
+use Rattle.term.specs.Packed.{term_at, count_terms, terms_from}
 use Rattle.bracket.specs.declared.Bracket.{Bracket}
 use Rattle.bracket.specs.Rules.{power}
 use Rattle.equation.specs.Rules.{tau, coefficient}
 use Rattle.quick.specs.declared.ready.Row.{Row}
 use Rattle.quick.specs.declared.ready.Reach.{Reach}
-use Rattle.quick.specs.Unpacked.{blank, listed, AllBounds}
+use Rattle.quick.specs.Unpacked.{blank, AllBounds}
 use Rattle.quick.specs.Powers.{nothing, PowersTo}
 use Rattle.quick.specs.Keys.{key_of, KeysTo, FirstLike}
 use Rattle.quick.specs.Ready.{no_row, Reaches, SameBefore, RowFor, RowsTo, ReadyFor}
-use Rattle.quick.proofs.Listed.{listed_at}
+use Rattle.quick.proofs.Listed.{terms-length, terms_at}
 use Rattle.quick.proofs.Alike.{same_key, like_key, key_same, key_like}
 
 -- a row by the first places of its keys
@@ -94,21 +94,19 @@ module _ (w : ℕ) (f g : ℕ → Term) (p q : ℕ → Bracket) (k : ℕ) (same 
         like_first = λ j h c f d. r.like_first j h (at (λ (t : Term). t.c) j (below h r.like) c) (at (λ (t : Term). t.factor) j (below h r.like) f) (at (λ (t : Term). t.d) j (below h r.like) d);
       }
 
--- what is made ready of a list that holds a table's terms
-module _ (w kind : ℕ) (table : List ℕ) (t : Float) {list : List Term} (e : list ≡ listed kind table (count_terms kind table)) {count : ℕ} (n : count ≡ count_terms kind table) where
-  term_is : (k : ℕ) → k < count_terms kind table → get_or list k blank ≡ term_at kind table k
-  term_is k l = ap (λ (z : List Term). get_or z k blank) e ∙ listed_at kind table (count_terms kind table) k l
-
-  pub ready_for : (reach : Reach) → Reaches list count reach → {τ : Bracket} → τ ≡ tau w (exact_of t) → (taus : List Bracket) → PowersTo w τ reach.t taus → {rows : List Row}
-      → RowsTo w (λ k. get_or list k blank) (λ p. get_or taus p nothing) rows count → ReadyFor w kind table (record { t = t; rows = rows; far = reach.d })
+-- what is made ready of a table's terms
+module _ (w kind : ℕ) (table : List ℕ) (t : Float) {terms : List Term} (e : terms ≡ terms_from kind table 0 (count_terms kind table)) where
+  pub ready_for : (reach : Reach) → Reaches terms (length terms) reach → {τ : Bracket} → τ ≡ tau w (exact_of t) → (taus : List Bracket) → PowersTo w τ reach.t taus → {rows : List Row}
+      → RowsTo w (λ k. get_or terms k blank) (λ p. get_or taus p nothing) rows (length terms) → ReadyFor w kind table (record { t = t; rows = rows; far = reach.d })
   ready_for reach r {τ} is taus powers {rows} h =
+      let n = terms-length kind table e in
       record {
         rows = λ k l.
-            let inside : k < count = omega (arith, n, l) in
-            let far : (term_at kind table k).t ≤ reach.t = subst (λ (z : Term). z.t ≤ reach.t) (term_is k l) (r.t_reached k inside) in
-            row_renamed w (λ j. get_or list j blank) (term_at kind table) (λ p. get_or taus p nothing) (power w (tau w (exact_of t))) k (λ j before. term_is j (omega arith))
+            let inside : k < length terms = omega (arith, n, l) in
+            let far : (term_at kind table k).t ≤ reach.t = subst (λ (z : Term). z.t ≤ reach.t) (terms_at kind table e k l) (r.t_reached k inside) in
+            row_renamed w (λ j. get_or terms j blank) (term_at kind table) (λ p. get_or taus p nothing) (power w (tau w (exact_of t))) k (λ j before. terms_at kind table e j (omega arith))
             (powers (term_at kind table k).t (omega arith) ∙ ap (λ (b : Bracket). power w b (term_at kind table k).t) is) (get_or rows k no_row) (h k inside);
-        d_reached = λ k l. subst (λ (z : Term). z.d ≤ reach.d) (term_is k l) (r.d_reached k (omega (arith, n, l)));
-        c_reached = λ k l. subst (λ (z : Term). z.c ≤ reach.d) (term_is k l) (r.c_reached k (omega (arith, n, l)));
+        d_reached = λ k l. subst (λ (z : Term). z.d ≤ reach.d) (terms_at kind table e k l) (r.d_reached k (omega (arith, n, l)));
+        c_reached = λ k l. subst (λ (z : Term). z.c ≤ reach.d) (terms_at kind table e k l) (r.c_reached k (omega (arith, n, l)));
         far_most = r.d_most;
       }

@@ -8,9 +8,10 @@ use Rattle.bracket.specs.declared.Bracket.{Bracket}
 use Rattle.bracket.specs.Rules.{power}
 use Rattle.equation.specs.Ranged.{DeltaIn, TauIn, AllHeld}
 use Rattle.equation.specs.Rules.{coefficient, term_v, addends_of, addends}
-use Rattle.equation.proofs.Holds.{delta-power_held, tau-power_held, coefficient_held, by_delta-held, by_tau_held, term-g_in, e_in, w-in, factor_s2-held}
+use Rattle.equation.proofs.Holds.{term-valued, term-g_in, e_in, w-in, factor_s2-held}
 use Rattle.equation.proofs.HoldsSums.{addends_held}
-use Rattle.quick.specs.Kept.{weighed_by, kept_of, value_by, addends_by, Addable}
+use Rattle.equation.specs.Value.{value_by}
+use Rattle.quick.specs.Kept.{weighed_by, kept_of, addends_by, Addable}
 
 -- a term's addends are those by what is kept for it
 pub addends-by : (w : ℕ) (term : Term) (a b : Bracket)
@@ -26,14 +27,7 @@ module _ {v : ℕ} (term : Term) (a b : Bracket) (s : Bounds term) (p : DeltaIn 
       let g = term-g_in a p term s in
       let tw = w-in _ g term.d term.c s.d_above s.d_most s.c_most in
       record {
-        valued = record {
-          coefficient_held = coefficient_held p.held.lo.width term s;
-          delta_held = delta-power_held a p term.d s.d_most;
-          by-delta = by_delta-held a b p q term s;
-          tau_held = tau-power_held b q term.t s.t_most;
-          by-tau = by_tau_held a b p q term s;
-          e_held = (e_in _ g term.c).held;
-        };
+        valued = term-valued a b p q term s (e_in _ g term.c);
         w_held = tw.held;
         factor_held = factor_s2-held _ tw _ g term.c s.c_most;
         addends_held = held;

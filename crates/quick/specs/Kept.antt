@@ -6,16 +6,12 @@ use Rattle.term.specs.Bounds.{Bounds}
 use Rattle.bracket.specs.declared.Bracket.{Bracket}
 use Rattle.bracket.specs.Rules.{ends, times}
 use Rattle.bracket.specs.Held.{Held}
+use Rattle.equation.specs.Value.{value_by, Valued}
 use Rattle.equation.specs.declared.Sums.{Sums}
 use Rattle.equation.specs.Rules.{scaled, factor_e, term_w, factor_s2}
 use Rattle.equation.specs.Ranged.{GIn, AllHeld}
+use Rattle.quick.specs.declared.kept.Kept.{Kept}
 use Rattle.quick.specs.declared.ready.Row.{Row}
-
-pub record Kept : Type 0 where
-  pub g : Bracket
-  pub e : Bracket
-  pub w : Bracket
-  pub s2 : Bracket
 
 -- by g and E: w and the factor of S2
 unfoldable pub weighed_by : (w c d : ℕ) → (g e : Bracket) → Kept
@@ -26,10 +22,6 @@ unfoldable pub kept_of : (w : ℕ) → Term → Bracket → Kept
 kept_of w term power =
     let g = scaled w term.c term.factor power in
     weighed_by w term.c term.d g (factor_e w term.c g)
-
--- V: the coefficient times the powers of delta and tau, times E
-unfoldable pub value_by : ℕ → (coefficient delta tau e : Bracket) → Bracket
-value_by w coefficient delta tau e = times w (ends (times w (ends (times w (ends coefficient) (ends delta))) (ends tau))) (ends e)
 
 unfoldable pub addends_by : ℕ → (coefficient delta tau e tw factor : Bracket) → Sums
 addends_by w coefficient delta tau e tw factor =
@@ -44,15 +36,7 @@ pub record Keepable (v i : ℕ) (row : Row) (g e power : Bracket) : Type 0 where
   pub same_g : row.same < i → g ≡ scaled (suc v) row.term.c row.term.factor power
   pub same_e : row.same < i → e ≡ factor_e (suc v) row.term.c (scaled (suc v) row.term.c row.term.factor power)
 
--- what V and the addends are made of is held
-pub record Valued (v : ℕ) (coefficient delta tau e : Bracket) : Type 0 where
-  pub coefficient_held : Held v coefficient
-  pub delta_held : Held v delta
-  pub by-delta : Held v (times (suc v) (ends coefficient) (ends delta))
-  pub tau_held : Held v tau
-  pub by-tau : Held v (times (suc v) (ends (times (suc v) (ends coefficient) (ends delta))) (ends tau))
-  pub e_held : Held v e
-
+-- what the addends are made of is held
 pub record Addable (v : ℕ) (coefficient delta tau e tw factor : Bracket) : Type 0 where
   pub valued : Valued v coefficient delta tau e
   pub w_held : Held v tw

@@ -21,12 +21,6 @@ pub record Reaches (list : List Term) (count : ℕ) (reach : Reach) : Type 0 whe
   pub t_most : reach.t ≤ 63
   pub d_most : reach.d ≤ 31
 
--- the least number that is not below either
-pub record Larger (a b r : ℕ) : Type 0 where
-  pub first : a ≤ r
-  pub second : b ≤ r
-  pub least : (n : ℕ) → a ≤ n → b ≤ n → r ≤ n
-
 -- the reach with one term more: the least that holds both
 pub record Farther (old : Reach) (term : Term) (new : Reach) : Type 0 where
   pub t_old : old.t ≤ new.t

@@ -1,32 +1,36 @@
-// What terms of one c and factor share at a density, taken once: g and the exponential. A term at place i takes them over from the first place
-// with its c and factor, `same`, where that lies before it.
-ghost use Rattle.std.specs.Prelude.{◌≡◌, suc, ◌<◌};
-ghost use Rattle.term.specs.Bounds.{Bounds};
-ghost use Rattle.bracket.specs.Held.{Held};
-ghost use Rattle.equation.specs.Rules.{scaled, factor_e};
-ghost use Rattle.equation.specs.Ranged.{GIn};
+// What terms of one c, factor and d share at a density, taken once.
+ghost use Rattle.std.specs.Prelude.{◌≡◌, suc};
+ghost use Rattle.quick.specs.Kept.{kept_of, Keepable};
 
+use crate::ready::Row;
 use bracket::Bracket;
-use term::Term;
 
-// By delta to the power c.
-pub fn g_for(v: u64, i: usize, same: usize, term: Term, g: Bracket, power: Bracket) -> Bracket
-    requires { Bounds term × (Held v power × (same < i → g ≡ scaled (suc v) term.c term.factor power)) }
-    ensures { result ≡ scaled (suc v) term.c term.factor power }
-{
-    if same < i {
-        return g;
-    }
-    equation::scale(v, term.c, term.factor, power)
+// g, the exponential, w, and what V is multiplied by in the second sum.
+#[derive(Clone, Copy)]
+pub struct Kept {
+    pub g: Bracket,
+    pub e: Bracket,
+    pub w: Bracket,
+    pub s2: Bracket,
 }
 
-// By g.
-pub fn e_for(v: u64, i: usize, same: usize, c: u64, e: Bracket, g: Bracket) -> Bracket
-    requires { GIn v g × (same < i → e ≡ factor_e (suc v) c g) }
-    ensures { result ≡ factor_e (suc v) c g }
+// By delta to the power c, for the row at place i. It takes g and e over from the first place with its c and factor, where that lies before it.
+pub fn kept_for(v: u64, i: usize, row: Row, g: Bracket, e: Bracket, power: Bracket) -> Kept
+    requires { Keepable v i row g e power }
+    ensures { result ≡ kept_of (suc v) row.term power }
 {
-    if same < i {
-        return e;
-    }
-    equation::factor_e(v, c, g)
+    let term = row.term;
+    let g = if row.same < i {
+        g
+    } else {
+        equation::scale(v, term.c, term.factor, power)
+    };
+    let e = if row.same < i {
+        e
+    } else {
+        equation::factor_e(v, term.c, g)
+    };
+    let w = equation::term_w(v, term.d, term.c, g);
+    let s2 = equation::factor_s2(v, term.c, g, w);
+    Kept { g, e, w, s2 }
 }

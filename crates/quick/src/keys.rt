@@ -1,31 +1,47 @@
 // Which terms share what: a key for each term, and the first place at which a key stands.
-ghost use Rattle.std.specs.Prelude.{◌≡◌, ◌≤◌, ◌<◌, length};
+ghost use Rattle.std.specs.Prelude.{◌≡◌, ◌≤◌, ◌<◌, true, false, length};
 ghost use Rattle.term.specs.Bounds.{Bounds};
 ghost use Rattle.quick.specs.Keys.{key_of, KeysTo, FirstLike};
 ghost use Rattle.quick.specs.Unpacked.{AllBounds};
 
 use term::Term;
 
-// By c and factor, which settle the exponential; `weighed` by d too, which with them settles what V is multiplied by.
-fn key(term: Term, weighed: bool) -> u64
-    requires { Bounds term }
-    ensures { result ≡ key_of weighed term }
-{
-    let key = term.c * 1024 + term.factor;
-    if weighed { key * 32 + term.d } else { key }
+// The keys of some terms.
+#[derive(Clone, Copy)]
+pub struct Keys {
+    pub same: [u64; 64],
+    pub like: [u64; 64],
 }
 
-// The keys of a list's first terms.
-pub fn keys(list: [Term; 64], count: usize, weighed: bool) -> [u64; 64]
-    requires { AllBounds list count × (count ≤ 64) }
-    ensures { KeysTo weighed list count result }
+// By c and factor, which settle the exponential.
+#[tactic(auto, unfolding(crate::specs::Keys::key_of))]
+fn same_key(term: Term) -> u64
+    requires { Bounds term }
+    ensures { result ≡ key_of false term }
 {
-    let mut keys = [0u64; 64];
-    let mut i: usize = 0;
-    while i < count {
-        let term = list[i];
-        keys[i] = key(term, weighed);
-        i += 1;
+    term.c * 1024 + term.factor
+}
+
+// By d too, which with them settles what V is multiplied by.
+#[tactic(auto, unfolding(crate::specs::Keys::key_of))]
+fn like_key(term: Term) -> u64
+    requires { Bounds term }
+    ensures { result ≡ key_of true term }
+{
+    same_key(term) * 32 + term.d
+}
+
+pub fn keys_of(terms: &[Term]) -> Keys
+    requires { AllBounds terms.now (length terms.now) × (length terms.now ≤ 64) }
+    ensures { KeysTo false terms.now (length terms.now) result.same × KeysTo true terms.now (length terms.now) result.like }
+{
+    let mut keys = Keys {
+        same: [0; 64],
+        like: [0; 64],
+    };
+    for (i, term) in terms.iter().enumerate() {
+        keys.same[i] = same_key(*term);
+        keys.like[i] = like_key(*term);
     }
     keys
 }
@@ -36,12 +52,8 @@ pub fn first_like(keys: &[u64], k: usize) -> usize
     ensures { FirstLike keys.now k result }
 {
     let key = keys[k];
-    let mut i: usize = 0;
-    while i < k {
-        if keys[i] == key {
-            return i;
-        }
-        i += 1;
-    }
-    k
+    keys[..k]
+        .iter()
+        .position(|other| *other == key)
+        .unwrap_or(k)
 }

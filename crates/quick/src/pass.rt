@@ -7,25 +7,14 @@ ghost use Rattle.doubles.specs.Range.{accepted_temperature, accepted_density};
 ghost use Rattle.term.specs.Sound.{sound_table};
 ghost use Rattle.equation.specs.Rules.{plus_each, sums};
 ghost use Rattle.equation.specs.Ranged.{AllHeld};
-ghost use Rattle.quick.specs.Kept.{value_by, addends_by, Valued, Addable};
+ghost use Rattle.quick.specs.Kept.{addends_by, Addable};
 ghost use Rattle.quick.specs.Ready.{ReadyFor};
 
-use crate::kept::{e_for, g_for};
-use crate::powers::powers;
+use crate::kept::kept_for;
+use crate::powers::{NOTHING, powers};
 use crate::ready::{Ready, Row};
 use bracket::Bracket;
 use equation::Sums;
-use sheet::Sheet;
-
-// V
-fn value(v: u64, coefficient: Bracket, delta: Bracket, tau: Bracket, e: Bracket) -> Bracket
-    requires { Valued v coefficient delta tau e }
-    ensures { result ≡ value_by (suc v) coefficient delta tau e }
-{
-    let by_delta = bracket::product(v, coefficient, delta);
-    let by_tau = bracket::product(v, by_delta, tau);
-    bracket::product(v, by_tau, e)
-}
 
 // The sums with a row's addends, by its power of delta and what is kept for it. All is done here, and nothing is handed on whole: so the sums
 // of the pass stay scalars.
@@ -41,9 +30,7 @@ fn add_row(
     requires { Addable v row.coefficient delta row.tau e w factor × AllHeld v s }
     ensures { result ≡ plus_each (suc v) s (addends_by (suc v) row.coefficient delta row.tau e w factor) }
 {
-    let coefficient = row.coefficient;
-    let tau = row.tau;
-    let a0 = value(v, coefficient, delta, tau, e);
+    let a0 = equation::value(v, row.coefficient, delta, row.tau, e);
     let a1 = bracket::product(v, a0, w);
     let a2 = bracket::product(v, a0, factor);
     let s0 = bracket::sum(v, s.s0, a0);
@@ -61,37 +48,25 @@ pub fn sums_of(v: u64, kind: u64, table: &[u8], ready: Ready, rho: f64) -> Sums
     let deltas = powers(v, equation::delta(v, rho), ready.far);
     let rows = ready.rows;
     let count = term::count_terms(kind, table);
-    let zero = Sheet {
-        neg: false,
-        m: 0,
-        e: 0,
-    };
-    let nothing = Bracket { lo: zero, hi: zero };
-    let mut gs = [nothing; 64];
-    let mut es = [nothing; 64];
-    let mut ws = [nothing; 64];
-    let mut factors = [nothing; 64];
+    let mut gs = [NOTHING; 64];
+    let mut es = [NOTHING; 64];
+    let mut ws = [NOTHING; 64];
+    let mut factors = [NOTHING; 64];
     let mut s = equation::no_sums(v);
-    let mut i: usize = 0;
-    while i < count {
+    for i in 0..count {
         let row = rows[i];
         let term = row.term;
         let like = row.like;
         let same = row.same;
-        let c = term.c as usize;
-        let d = term.d as usize;
         if like == i {
-            let g = g_for(v, i, same, term, gs[same], deltas[c]);
-            let e = e_for(v, i, same, term.c, es[same], g);
-            let w = equation::term_w(v, term.d, term.c, g);
-            let factor = equation::factor_s2(v, term.c, g, w);
-            gs[i] = g;
-            es[i] = e;
-            ws[i] = w;
-            factors[i] = factor;
+            let kept = kept_for(v, i, row, gs[same], es[same], deltas[term.c as usize]);
+            gs[i] = kept.g;
+            es[i] = kept.e;
+            ws[i] = kept.w;
+            factors[i] = kept.s2;
         }
-        s = add_row(v, row, deltas[d], es[like], ws[like], factors[like], s);
-        i += 1;
+        let delta = deltas[term.d as usize];
+        s = add_row(v, row, delta, es[like], ws[like], factors[like], s);
     }
     s
 }

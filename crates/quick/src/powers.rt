@@ -4,6 +4,13 @@ ghost use Rattle.bracket.specs.Held.{Powers};
 ghost use Rattle.quick.specs.Powers.{PowersTo};
 
 use bracket::Bracket;
+use sheet::Sheet;
+
+// A bracket where a list has none.
+pub const NOTHING: Bracket = Bracket {
+    lo: Sheet::ZERO,
+    hi: Sheet::ZERO,
+};
 
 // Those from 0 to n, n at most 63.
 pub fn powers(v: u64, base: Bracket, n: u64) -> [Bracket; 64]
@@ -12,12 +19,8 @@ pub fn powers(v: u64, base: Bracket, n: u64) -> [Bracket; 64]
 {
     let one = bracket::whole(v, 1);
     let mut list = [one; 64];
-    let n = n as usize;
-    let mut i: usize = 0;
-    while i < n {
-        let last = list[i];
-        i += 1;
-        list[i] = bracket::product(v, last, base);
+    for i in 0..n as usize {
+        list[i + 1] = bracket::product(v, list[i], base);
     }
     list
 }

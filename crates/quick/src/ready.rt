@@ -1,6 +1,6 @@
 // What a table gives at one temperature, made ready once for every density: each term with its coefficient, its power of tau, and the first
 // places of the terms that share its exponential and its weights.
-ghost use Rattle.std.specs.Prelude.{◌≡◌, true, suc, ◌≤◌, T, get_or, replicate};
+ghost use Rattle.std.specs.Prelude.{◌≡◌, true, suc, ◌≤◌, T, length, get_or};
 ghost use Rattle.sheet.specs.Range.{Width};
 ghost use Rattle.kind.specs.Kind.{widest};
 ghost use Rattle.doubles.specs.Range.{accepted_temperature};
@@ -9,12 +9,12 @@ ghost use Rattle.term.specs.Sound.{sound_table};
 ghost use Rattle.equation.specs.Rules.{coefficient};
 ghost use Rattle.quick.specs.Powers.{nothing};
 ghost use Rattle.quick.specs.Unpacked.{blank, Holds, AllBounds};
-ghost use Rattle.quick.specs.Ready.{no_row, Larger, Farther, Reaches, RowsTo, ReadyFor};
+ghost use Rattle.quick.specs.Ready.{Farther, Reaches, RowsTo, ReadyFor};
 
-use crate::keys::{first_like, keys};
-use crate::powers::powers;
+use crate::keys::{first_like, keys_of};
+use crate::powers::{NOTHING, powers};
+use crate::unpacked::BLANK;
 use bracket::Bracket;
-use sheet::Sheet;
 use term::Term;
 
 // A term, its coefficient and tau to the power t; `same` is the first place with its c and factor, `like` the first with its d too.
@@ -42,57 +42,31 @@ pub struct Ready {
     pub far: u64,
 }
 
-fn no_rows() -> [Row; 64]
-    ensures { result ≡ replicate 64 no_row }
-{
-    let zero = Sheet {
-        neg: false,
-        m: 0,
-        e: 0,
-    };
-    let nothing = Bracket { lo: zero, hi: zero };
-    let term = Term {
-        c: 0,
-        factor: 0,
-        d: 0,
-        t: 0,
-        negative: false,
-        magnitude: 0,
-    };
-    let row = Row {
-        term,
-        coefficient: nothing,
-        tau: nothing,
-        same: 0,
-        like: 0,
-    };
-    [row; 64]
-}
-
-fn larger(a: u64, b: u64) -> u64
-    ensures { Larger a b result }
-{
-    if a < b { b } else { a }
-}
+// A row where a list has none.
+const NO_ROW: Row = Row {
+    term: BLANK,
+    coefficient: NOTHING,
+    tau: NOTHING,
+    same: 0,
+    like: 0,
+};
 
 fn farther(reach: Reach, term: Term) -> Reach
     ensures { Farther reach term result }
 {
-    let t = larger(reach.t, term.t);
-    let d = larger(reach.d, larger(term.d, term.c));
-    Reach { t, d }
+    Reach {
+        t: reach.t.max(term.t),
+        d: reach.d.max(term.d).max(term.c),
+    }
 }
 
-fn reach_of(list: [Term; 64], count: usize) -> Reach
-    requires { AllBounds list count × (count ≤ 64) }
-    ensures { Reaches list count result }
+fn reach_of(terms: &[Term]) -> Reach
+    requires { AllBounds terms.now (length terms.now) }
+    ensures { Reaches terms.now (length terms.now) result }
 {
     let mut reach = Reach { t: 0, d: 0 };
-    let mut i: usize = 0;
-    while i < count {
-        let term = list[i];
-        reach = farther(reach, term);
-        i += 1;
+    for term in terms {
+        reach = farther(reach, *term);
     }
     reach
 }
@@ -111,23 +85,18 @@ fn row_of(v: u64, term: Term, tau: Bracket, same: usize, like: usize) -> Row
     }
 }
 
-// The rows of a list's first terms, by the powers of tau.
-fn rows_of(v: u64, list: [Term; 64], count: usize, taus: [Bracket; 64]) -> [Row; 64]
-    requires { Width v × AllBounds list count × (count ≤ 64) }
-    ensures { RowsTo (suc v) (λ k. get_or list k blank) (λ t. get_or taus t nothing) result count }
+// The rows of some terms, by the powers of tau.
+fn rows_of(v: u64, terms: &[Term], taus: &[Bracket; 64]) -> [Row; 64]
+    requires { Width v × AllBounds terms.now (length terms.now) × (length terms.now ≤ 64) }
+    ensures { RowsTo (suc v) (λ k. get_or terms.now k blank) (λ t. get_or taus.now t nothing) result (length terms.now) }
 {
-    let sames = keys(list, count, false);
-    let likes = keys(list, count, true);
-    let mut rows = no_rows();
-    let mut i: usize = 0;
-    while i < count {
-        let term = list[i];
+    let keys = keys_of(terms);
+    let mut rows = [NO_ROW; 64];
+    for (i, term) in terms.iter().enumerate() {
         let t = term.t as usize;
-        let power = taus[t];
-        let same = first_like(&sames, i);
-        let like = first_like(&likes, i);
-        rows[i] = row_of(v, term, power, same, like);
-        i += 1;
+        let same = first_like(&keys.same, i);
+        let like = first_like(&keys.like, i);
+        rows[i] = row_of(v, *term, taus[t], same, like);
     }
     rows
 }
@@ -138,11 +107,10 @@ pub fn made_ready(v: u64, kind: u64, table: &[u8], list: [Term; 64], t: f64) -> 
     requires t_accepted { T (accepted_temperature widest t) }
     ensures { ReadyFor (suc v) kind table.now result × (result.t ≡ t) }
 {
-    let count = term::count_terms(kind, table);
-    let far = reach_of(list, count);
-    let tau = equation::tau(v, t);
-    let taus = powers(v, tau, far.t);
-    let rows = rows_of(v, list, count, taus);
+    let terms = &list[..term::count_terms(kind, table)];
+    let far = reach_of(terms);
+    let taus = powers(v, equation::tau(v, t), far.t);
+    let rows = rows_of(v, terms, &taus);
     Ready {
         t,
         rows,

@@ -4,7 +4,7 @@ ghost use Rattle.quick.specs.Lent.{plain_reply, Stated};
 ghost use Rattle.quick.specs.Reading.{ReplyNumbers};
 
 use crate::replies::{count_laid, reply};
-use crate::unpacked::terms_of;
+use crate::unpacked::{BLANK, terms_of};
 use crate::{Question, Reply};
 use term::Term;
 
@@ -13,11 +13,7 @@ fn lay(list: [Term; 64], count: usize, terms: &mut [Term])
     requires { (count ≤ 64) × (count ≤ length terms.old) }
     ensures { terms.new ≡ take count list ++ drop count terms.old }
 {
-    let mut i: usize = 0;
-    while i < count {
-        terms[i] = list[i];
-        i += 1;
-    }
+    terms[..count].copy_from_slice(&list[..count]);
 }
 
 // The reply to a question with a lent slice.
@@ -37,13 +33,6 @@ pub fn ask_own(width: u64, kind: u64, table: &[u8], question: Question) -> Reply
     ensures value { (result ≡ plain_reply width kind table.now question) × ReplyNumbers result }
     ensures table_stays { table.exit.now ≡ table.entry.now }
 {
-    let mut terms = [Term {
-        c: 0,
-        factor: 0,
-        d: 0,
-        t: 0,
-        negative: false,
-        magnitude: 0,
-    }; 64];
+    let mut terms = [BLANK; 64];
     ask(width, kind, table, &mut terms, question)
 }

@@ -13,6 +13,7 @@ mod cards; // cards.rt: the checks, and what is handed out
 pub use cards::vapour_card;
 
 // Which terms a sum runs over: those with d = 1, those with d = 2, and those with d = 1 and c = 1, which an exponential of minus delta damps.
+// Stays: no closure, since `picks`, `sum_over` and the rules of B and C in specs/ name the three sums by this choice.
 #[derive(Clone, Copy)]
 pub enum Pick {
     First,

@@ -40,11 +40,9 @@ pub fn coefficients_of(v: u64, table: &[u8], t: f64) -> Coefficients
     let first = sum_over(v, Pick::First, table, tau);
     let second = sum_over(v, Pick::Second, table, tau);
     let damped = sum_over(v, Pick::FirstDamped, table, tau);
-    let b = second_of(v, first);
-    let c = third_of(v, second, damped);
     Coefficients {
-        second: b,
-        third: c,
+        second: second_of(v, first),
+        third: third_of(v, second, damped),
     }
 }
 

@@ -12,15 +12,14 @@ use bracket::Bracket;
 use term::Term;
 
 // Whether the sum takes the term.
+#[tactic(auto, unfolding(crate::specs::Sums::picks))]
 fn picks(pick: Pick, term: Term) -> bool
     ensures { result ≡ picks pick term }
 {
-    let c = term.c;
-    let d = term.d;
     match pick {
-        Pick::First => d == 1,
-        Pick::Second => d == 2,
-        Pick::FirstDamped => if d == 1 { c == 1 } else { false },
+        Pick::First => term.d == 1,
+        Pick::Second => term.d == 2,
+        Pick::FirstDamped => term.d == 1 && term.c == 1,
     }
 }
 
@@ -28,9 +27,8 @@ fn addend(v: u64, term: Term, tau: Bracket) -> Bracket
     requires { Bounds term × TauIn v tau }
     ensures { result ≡ addend (suc v) term tau }
 {
-    let t = term.t;
     let coefficient = equation::coefficient(v, term);
-    bracket::product(v, coefficient, bracket::power(v, tau, t))
+    bracket::product(v, coefficient, bracket::power(v, tau, term.t))
 }
 
 // The sum with the k-th term's addend, where it is taken.
@@ -53,10 +51,8 @@ pub fn sum_over(v: u64, pick: Pick, table: &[u8], tau: Bracket) -> Bracket
 {
     let count = term::count_terms(38, table);
     let mut s = bracket::whole(v, 0);
-    let mut i: usize = 0;
-    while i < count {
+    for i in 0..count {
         s = add_term(v, pick, table, i, tau, s);
-        i += 1;
     }
     s
 }

@@ -25,25 +25,25 @@ module _ {v : ℕ} (term : Term) (a b : Bracket) (s : Bounds term) (p : DeltaIn 
   w_held {g} i k = subst (WIn v) (sym k) (w-in g (g_held i) term.d term.c s.d_above s.d_most s.c_most)
 
 pub factor_g-g-requires : goal.factor_g-g-requires
-factor_g-g-requires c = let h = c.requires in (h.0, h.1.0)
+factor_g-g-requires c = let h = c.requires in (h.0, h.1.delta)
 
 pub factor_e-requires : goal.factor_e-requires
 factor_e-requires c =
     let a = c.args in
     let h = c.requires in
-    g_held a.term a.delta a.tau h.0 h.1.0 h.1.1 c.factor_g-g.ensures
+    g_held a.term a.x.delta a.x.tau h.0 h.1.delta h.1.tau c.factor_g-g.ensures
 
 pub term_v-tv-requires : goal.term_v-tv-requires
 term_v-tv-requires c =
     let a = c.args in
     let h = c.requires in
-    ((h.0, h.1.0), (h.1.1, e_held a.term a.delta a.tau h.0 h.1.0 h.1.1 c.factor_g-g.ensures c.factor_e.ensures))
+    (h.0, h.1, e_held a.term a.x.delta a.x.tau h.0 h.1.delta h.1.tau c.factor_g-g.ensures c.factor_e.ensures)
 
 pub term_w-requires : goal.term_w-requires
 term_w-requires c =
     let a = c.args in
     let h = c.requires in
-    ((h.0.d_above, h.0.d_most), (h.0.c_most, g_held a.term a.delta a.tau h.0 h.1.0 h.1.1 c.factor_g-g.ensures))
+    ((h.0.d_above, h.0.d_most), (h.0.c_most, g_held a.term a.x.delta a.x.tau h.0 h.1.delta h.1.tau c.factor_g-g.ensures))
 
 pub addends_of-requires : goal.addends_of-requires
 addends_of-requires c =
@@ -51,15 +51,15 @@ addends_of-requires c =
     let h = c.requires in
     let g = c.factor_g-g.ensures in
     let e = c.factor_e.ensures in (
-      (h.0.c_most, g_held a.term a.delta a.tau h.0 h.1.0 h.1.1 g),
+      (h.0.c_most, g_held a.term a.x.delta a.x.tau h.0 h.1.delta h.1.tau g),
       (
-        v-held a.term a.delta a.tau h.0 h.1.0 h.1.1 g e c.term_v-tv.ensures,
-        w_held a.term a.delta a.tau h.0 h.1.0 h.1.1 g c.term_w.ensures,
+        v-held a.term a.x.delta a.x.tau h.0 h.1.delta h.1.tau g e c.term_v-tv.ensures,
+        w_held a.term a.x.delta a.x.tau h.0 h.1.delta h.1.tau g c.term_w.ensures,
       ),
     )
 
 pub returns : goal.returns
 returns c =
     let a = c.args in
-    addends-is (suc a.v) a.term a.delta a.tau c.factor_g-g.ensures c.factor_e.ensures
+    addends-is (suc a.v) a.term a.x.delta a.x.tau c.factor_g-g.ensures c.factor_e.ensures
     c.term_v-tv.ensures c.term_w.ensures c.addends_of.ensures

@@ -7,16 +7,18 @@ use Rattle.sheet.proofs.Live.{range_spelled}
 use Rattle.equation.proofs.Steps.{held-is, times-of}
 use Rattle.equation.proofs.Plain.{none-scaled, hundred_scaled, some_scaled}
 use Rattle.equation.proofs.Holds.{factor_held}
+use Rattle.equation.proofs.exponent.scale.Goals.{then-c-eq0-via-then-c-eq0, then-c-eq0-via-else-c-eq0+then-factor-eq100}
 use Rattle.equation.proofs.exponent.scale.Goals as goal
 
 pub returns-then-c-eq0 : goal.returns-then-c-eq0
-returns-then-c-eq0 c = let a = c.args in none-scaled (suc a.v) a.c a.factor a.power c.if-c-eq0.true
-
-pub returns-then-factor-eq100 : goal.returns-then-factor-eq100
-returns-then-factor-eq100 c =
+returns-then-c-eq0 c =
     let a = c.args in
     let h = c.requires.0 in
-    hundred_scaled a.v a.c a.factor a.power (record { lo = range_spelled h.lo; hi = range_spelled h.hi }) (record { order = h.order }) c.if-factor-eq100.true
+    elim c.then-c-eq0.branch [
+      | then-c-eq0-via-then-c-eq0 w ↦ none-scaled (suc a.v) a.c a.factor a.power w.if-c-eq0.true
+      | then-c-eq0-via-else-c-eq0+then-factor-eq100 w ↦
+          hundred_scaled a.v a.c a.factor a.power (record { lo = range_spelled h.lo; hi = range_spelled h.hi }) (record { order = h.order }) w.if-factor-eq100.true
+    ]
 
 pub given_ratio-requires : goal.given_ratio-requires
 given_ratio-requires c = let p = c.requires in (p.0.lo.width, omega arith, omega (arith, p.1.1))

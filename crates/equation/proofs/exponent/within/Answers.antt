@@ -6,16 +6,16 @@ use Rattle.equation.proofs.Clip.{most-spelled, at-upper}
 use Rattle.equation.proofs.Holds.{digits}
 use Rattle.equation.proofs.exponent.within.Goals as goal
 
-pub whole-limit-requires : goal.whole-limit-requires
-whole-limit-requires c = (c.requires.held.lo.width, omega arith)
+pub whole-requires : goal.whole-requires
+whole-requires c = (c.requires.held.lo.width, omega arith)
 
 pub at_most-requires : goal.at_most-requires
 at_most-requires c =
     let a = c.args in
     let p = c.requires in
-    record { v = a.v; first = range_spelled p.held.hi; second = most-spelled (digits a.g p) c.whole-limit.ensures }
+    record { v = a.v; first = range_spelled p.held.hi; second = most-spelled (digits a.g p) c.whole.ensures }
 
 pub returns : goal.returns
 returns c =
     let a = c.args in
-    c.at_most.ensures ∙ at-upper (digits a.g c.requires) c.whole-limit.ensures a.g
+    c.at_most.ensures ∙ at-upper (digits a.g c.requires) c.whole.ensures a.g

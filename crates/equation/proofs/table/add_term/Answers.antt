@@ -7,5 +7,5 @@ use Rattle.equation.proofs.table.add_term.Goals as goal
 pub plus_each-requires : goal.plus_each-requires
 plus_each-requires c =
     let a = c.args in
-    let h = c.requires.delta_in in
-    (h.2, subst (AllHeld a.v) (sym c.addends-a.ensures) (addends_held c.at.result a.delta a.tau c.at.ensures.bounds h.0 h.1))
+    let h = c.requires.reduced_in in
+    (h.1, subst (AllHeld a.v) (sym c.addends-a.ensures) (addends_held c.at.result a.x.delta a.x.tau c.at.ensures.bounds h.0.delta h.0.tau))

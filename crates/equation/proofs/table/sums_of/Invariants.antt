@@ -6,4 +6,4 @@ use Rattle.equation.specs.Rules.{sums_first}
 use Rattle.equation.proofs.table.sums_of.Given as goal
 
 abbrev pub invariant-loop-i : goal.invariant-loop-i
-invariant-loop-i l = l.s ≡ sums_first (suc l.v) (term_at l.table.kind l.table.bytes.now) l.delta l.tau l.i
+invariant-loop-i l = l.s ≡ sums_first (suc l.v) (term_at l.table.kind l.table.bytes.now) l.x.delta l.x.tau l.i

@@ -9,9 +9,6 @@ use Rattle.quick.specs.Kept.{addends_by}
 use Rattle.quick.proofs.pass.add_row.Goals.{After-product-a2}
 use Rattle.quick.proofs.pass.add_row.Goals as goal
 
-pub value-a0-requires : goal.value-a0-requires
-value-a0-requires c = c.requires.0.valued
-
 pub product-a1-requires : goal.product-a1-requires
 unfolding addends_by
 product-a1-requires c =

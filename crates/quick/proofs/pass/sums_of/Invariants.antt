@@ -3,7 +3,7 @@ use mathlib.Core.Path.{◌≡◌}
 use mathlib.Core.List.{List}
 use lib.ListN.{length}
 use Rattle.bracket.specs.declared.Bracket.{Bracket}
-use Prim.Native.Nat.{suc, ◌-◌, ◌≤◌}
+use Prim.Native.Nat.{suc}
 use Rattle.quick.proofs.Passed.{KeptTo, sums_rows}
 use Rattle.quick.proofs.pass.sums_of.Given as goal
 
@@ -12,7 +12,4 @@ abbrev pub Full : (gs es ws factors : List Bracket) → Type 0
 Full gs es ws factors = (length gs ≡ 64) × (length es ≡ 64) × (length ws ≡ 64) × (length factors ≡ 64)
 
 abbrev pub invariant-loop-i : goal.invariant-loop-i
-invariant-loop-i l = (l.i ≤ l.count) × Full l.gs l.es l.ws l.factors × KeptTo (suc l.v) l.rows l.deltas l.gs l.es l.ws l.factors l.i × (l.s ≡ sums_rows (suc l.v) l.rows l.deltas l.i)
-
-abbrev pub decreases-loop-i : goal.decreases-loop-i
-decreases-loop-i l = l.count - l.i
+invariant-loop-i l = Full l.gs l.es l.ws l.factors × KeptTo (suc l.v) l.rows l.deltas l.gs l.es l.ws l.factors l.i × (l.s ≡ sums_rows (suc l.v) l.rows l.deltas l.i)

@@ -1,10 +1,7 @@
 -- `quick::unpacked::terms_of` meets its contract: after i turns the first i terms stand in front of blanks. Assumes nothing.
 use mathlib.Core.Path.{◌≡◌, refl, ap, ◌∙◌}
-use Prim.Native.Nat.{◌+◌, ◌*◌, ◌-◌, ◌≤◌}
-use native.Mathlib.Nat.{mul-le-mul_left}
 use native.Mathlib.Omega.{arith}
-use lib.ListN.{length, drop, set, replicate}
-use Rattle.kind.specs.Kind.{term_bytes}
+use lib.ListN.{set, replicate, length-set}
 use Rattle.term.specs.Packed.{terms_from}
 use Rattle.quick.specs.Unpacked.{blank}
 use Rattle.quick.proofs.Listed.{one-term, drop_blanks}
@@ -12,28 +9,18 @@ use Rattle.quick.proofs.unpacked.terms_of.Goals as goal
 
 pub loop-i-init : goal.loop-i-init
 unfolding terms_from
-loop-i-init c = (omega arith, refl)
-
-pub term_at-requires : goal.term_at-requires
-term_at-requires c =
-    let a = c.args in
-    let p = c.requires in
-    let l = c.loop-i-test.true in
-    let more : term_bytes a.kind * (c.loop-i.i + 1) ≤ term_bytes a.kind * a.count = mul-le-mul_left (term_bytes a.kind) (omega arith) in
-    (omega (arith, more, p.inside), p.short (omega arith))
+loop-i-init c = (refl, refl)
 
 pub loop-i-preserved : goal.loop-i-preserved
 loop-i-preserved c =
     let a = c.args in
-    let old = c.blanks-list in
-    let long : length old.result ≡ 64 = ap length old.ensures in
-    let t = c.loop-i-test.true in
-    (omega arith, ap (set c.loop-i.list c.loop-i.i) c.term_at.ensures.0 ∙ one-term a.kind a.table.now c.loop-i.list old.result c.loop-i.i (omega (arith, long, c.requires.few)) c.loop-i.invariant.1)
+    let l = c.loop-i in (
+      length-set l.list l.i _ ∙ l.invariant.0,
+      ap (set l.list l.i) c.term_at.ensures.0 ∙ one-term a.kind a.table.now l.list (replicate 64 blank) l.i (omega (arith, c.requires.few)) l.invariant.1,
+    )
 
 pub returns : goal.returns
 returns c =
     let n = c.args.count in
-    let t = c.loop-i-test.false in
     let all : c.loop-i.i ≡ n = omega arith in
-    let old : drop n c.blanks-list.result ≡ replicate (64 - n) blank = rw c.blanks-list.ensures (drop_blanks 64 n blank) in
-    rw (← old, ← all) c.loop-i.invariant.1
+    rw (← drop_blanks 64 n blank, ← all) c.loop-i.invariant.1

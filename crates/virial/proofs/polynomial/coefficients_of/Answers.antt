@@ -33,13 +33,13 @@ pub sum_over-damped-requires : goal.sum_over-damped-requires
 sum_over-damped-requires c =
     (c.requires.1, ranged c.requires.0 c.args.t c.requires.2 c.tau-tau.ensures)
 
-pub second_of-b-requires : goal.second_of-b-requires
-second_of-b-requires c =
+pub second_of-requires : goal.second_of-requires
+second_of-requires c =
     let τ = ranged c.requires.0 c.args.t c.requires.2 c.tau-tau.ensures in
     subst (SumIn c.args.v) (sym c.sum_over-first.ensures) (sum_in _ τ _ c.args.table.now c.requires.1)
 
-pub third_of-c-requires : goal.third_of-c-requires
-third_of-c-requires c =
+pub third_of-requires : goal.third_of-requires
+third_of-requires c =
     let τ = ranged c.requires.0 c.args.t c.requires.2 c.tau-tau.ensures in (
       subst (SumIn c.args.v) (sym c.sum_over-second.ensures) (sum_in _ τ _ c.args.table.now c.requires.1),
       subst (SumIn c.args.v) (sym c.sum_over-damped.ensures) (sum_in _ τ _ c.args.table.now c.requires.1),
@@ -50,4 +50,4 @@ returns c =
     let a = c.args in
     coefficients-is (suc a.v) a.table.now (exact_of a.t) c.tau-tau.ensures
     c.sum_over-first.ensures c.sum_over-second.ensures c.sum_over-damped.ensures
-    c.second_of-b.ensures c.third_of-c.ensures
+    c.second_of.ensures c.third_of.ensures
