@@ -4,15 +4,14 @@
 ghost use Rattle.std.specs.Prelude.{◌≡◌};
 ghost use Rattle.kind.specs.Kind.{sound_kind, term_bytes};
 
+#[tactic(auto, unfolding(crate::specs::Kind::sound_kind))]
 pub fn sound_kind(kind: u64) -> bool
     ensures { result ≡ sound_kind kind }
 {
-    if kind == 38 {
-        return true;
-    }
-    kind == 58
+    matches!(kind, 38 | 58)
 }
 
+#[tactic(auto, unfolding(crate::specs::Kind::by_kind))]
 pub fn term_bytes(kind: u64) -> usize
     ensures { result ≡ term_bytes kind }
 {

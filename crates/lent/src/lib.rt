@@ -1,30 +1,36 @@
-// Bytes put into a lent buffer: a piece at a place, and a front where there is room for it. All other bytes stay.
+// Bytes put into a lent buffer: one or a piece at a place, and a front where there is room for it. All other bytes stay.
 #![tactic(auto)]
 
-ghost use Rattle.std.specs.Prelude.{◌+◌, ◌≤◌, length, take};
+ghost use Rattle.std.specs.Prelude.{◌≡◌, ◌+◌, ◌<◌, ◌≤◌, [], ◌∷◌, length, is_some, IfSome};
 ghost use Rattle.lent.specs.Put.{Put};
 ghost use Rattle.lent.specs.Front.{Delivered};
 
-// The first n bytes of `from`, put at a place. Answers the place after them.
-pub fn put_bytes(out: &mut [u8], at: usize, from: &[u8], n: usize) -> usize
-    requires { (at + n ≤ length out.old) × (n ≤ length from.now) }
-    ensures { Put out.old at (take n from.now) out.new result }
+// One byte, put at a place. Answers the place after it.
+pub fn put_byte(out: &mut [u8], at: usize, byte: u8) -> usize
+    requires { at < length out.old }
+    ensures { Put out.old at (byte ∷ []) out.new result }
 {
-    let mut i: usize = 0;
-    while i < n {
-        out[at + i] = from[i];
-        i += 1;
-    }
-    at + n
+    out[at] = byte;
+    at + 1
 }
 
-// The first n bytes of `from`, at the buffer's front if they have room there; else not one of them. Answers whether they have.
-pub fn deliver(from: &[u8], n: usize, out: &mut [u8]) -> bool
-    requires { n ≤ length from.now }
-    ensures { Delivered out.old (take n from.now) out.new result }
+// The bytes of `from`, put at a place. Answers the place after them.
+pub fn put_bytes(out: &mut [u8], at: usize, from: &[u8]) -> usize
+    requires { at + length from.now ≤ length out.old }
+    ensures { Put out.old at from.now out.new result }
 {
-    let room = out.len();
-    let written = if n <= room { n } else { 0 };
-    put_bytes(out, 0, from, written);
-    n <= room
+    let end = at + from.len();
+    out[at..end].copy_from_slice(from);
+    end
+}
+
+// The bytes of `from` at the buffer's front if they have room there; else not one of them. Answers how many were put.
+pub fn deliver(from: &[u8], out: &mut [u8]) -> Option<usize>
+    ensures delivered { Delivered out.old from.now out.new (is_some result) }
+    ensures count { IfSome result (λ n. n ≡ length from.now) }
+{
+    if out.len() < from.len() {
+        return None;
+    }
+    Some(put_bytes(out, 0, from))
 }

@@ -9,8 +9,9 @@ use native.Mathlib.Omega.{arith}
 use lib.Dec.{leb, ltb, eqb}
 use Rattle.kind.specs.Kind.{by_kind, term_bytes, longest}
 use Rattle.kind.proofs.Either.{by_long, by_plain, by_either}
+use Rattle.std.specs.Prelude.{Err}
 use Rattle.term.specs.declared.Term.{Term}
-use Rattle.term.specs.declared.Table.TheVariants.{Sound, Broken}
+use Rattle.term.specs.declared.Fault.TheVariants.{Broken}
 use Rattle.term.specs.Bounds.{WithinFields, WithinLong, Bounds, Plain, Whole, WithinKind}
 use Rattle.term.specs.Long.{long_from, spare_bits}
 use Rattle.term.specs.Packed.{plain_factor, plain_from, term_from, spare_from, term_at, spare_at}
@@ -227,12 +228,8 @@ whole_few {kind} {bytes} w = by_either kind (λ one. bytes ≤ 64 * one → byte
 pub within-bytes : (kind bytes k : ℕ) → k < bytes / term_bytes kind → term_bytes kind * k + term_bytes kind ≤ bytes
 within-bytes kind bytes k = by_either kind (λ one. k < bytes / one → one * k + one ≤ bytes) (λ h. omega arith) (λ h. omega arith)
 
--- ---- the answer of the place: none is sound, any other is broken there
-pub place_none : (count place : ℕ) → place ≡ 0 → Sound count ≡ place_answer count place
+-- ---- a broken term's place is the answer
+pub place_some : (count place : ℕ) → 0 < place → Err (Broken place) ≡ place_answer count place
 unfolding place_answer
-place_none count place h = rw h
-
-pub place_some : (count place : ℕ) → (place ≡ 0 → ⊥) → Broken place ≡ place_answer count place
-unfolding place_answer
-place_some count zero h = absurd (h refl)
+place_some count zero h = absurd (omega arith)
 place_some count (suc before) h = refl

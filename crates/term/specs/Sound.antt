@@ -1,10 +1,10 @@
 -- The rules that a packed term and a table keep, the place of the first term that breaks one, and what the check of a table answers.
 -- Kind 38 has the rules of document 01, kind 58 those of document 02, h. Assumes nothing.
-use Rattle.std.specs.Prelude.{ℕ, zero, suc, ◌+◌, ◌%◌, ◌^◌, List, Bool, cond, ◌&&◌, length, leb, ltb, eqb}
+use Rattle.std.specs.Prelude.{ℕ, zero, suc, ◌+◌, ◌%◌, ◌^◌, List, Bool, cond, ◌&&◌, length, leb, ltb, eqb, Result, Ok, Err}
 use Rattle.kind.specs.Kind.{term_bytes, longest}
 use Rattle.term.specs.declared.Term.{Term}
-use Rattle.term.specs.declared.Table.{Table}
-use Rattle.term.specs.declared.Table.TheVariants.{Sound, Length, Broken}
+use Rattle.term.specs.declared.Fault.{Fault}
+use Rattle.term.specs.declared.Fault.TheVariants.{Length, Broken}
 use Rattle.term.specs.Packed.{term_at, spare_at, count_terms}
 
 -- both kinds: d is not 0, and the magnitude is neither 0 nor above ten to the 17
@@ -41,10 +41,10 @@ unfoldable pub sound_table : ℕ → List ℕ → Bool
 sound_table kind table = sound_length kind (length table) && eqb (first_broken kind table) 0
 
 -- the answer for the place of the first broken term of a table of right length
-unfoldable pub place_answer : ℕ → ℕ → Table
-place_answer count zero = Sound count
-place_answer count (suc before) = Broken (suc before)
+unfoldable pub place_answer : ℕ → ℕ → Result ℕ Fault
+place_answer count zero = Ok count
+place_answer count (suc before) = Err (Broken (suc before))
 
 -- the check of a table: its length first, then the first broken term
-unfoldable pub table_answer : ℕ → List ℕ → Table
-table_answer kind table = cond (sound_length kind (length table)) (place_answer (count_terms kind table) (first_broken kind table)) Length
+unfoldable pub table_answer : ℕ → List ℕ → Result ℕ Fault
+table_answer kind table = cond (sound_length kind (length table)) (place_answer (count_terms kind table) (first_broken kind table)) (Err Length)

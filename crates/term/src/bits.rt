@@ -1,20 +1,6 @@
 // A field of lent bytes by its first bit and its count of bits, most significant first, read byte by byte.
-ghost use Rattle.std.specs.Prelude.{◌≡◌, ◌+◌, ◌-◌, ◌*◌, ◌%◌, ◌<◌, ◌≤◌, ◌^◌, min, length};
+ghost use Rattle.std.specs.Prelude.{◌≡◌, ◌+◌, ◌-◌, ◌*◌, ◌%◌, ◌<◌, ◌≤◌, ◌^◌, length};
 ghost use Rattle.term.specs.Bits.{field, Within};
-
-fn wide(byte: u8) -> u64
-    ensures { result ≡ byte }
-{
-    byte as u64
-}
-
-// Of the bits wanted from a place on, how many its byte has.
-fn at_hand(place: usize, wanted: usize) -> usize
-    ensures { result ≡ min (8 - place % 8) wanted }
-{
-    let left = 8 - place % 8;
-    if left < wanted { left } else { wanted }
-}
 
 // The n bits from a place on, all of one byte: a shift up drops those before them, a shift down those behind.
 fn piece(bytes: &[u8], place: usize, n: usize) -> u64
@@ -24,7 +10,7 @@ fn piece(bytes: &[u8], place: usize, n: usize) -> u64
     let byte = bytes[place / 8];
     let up = place % 8;
     let down = 8 - n;
-    wide((byte << up) >> down)
+    u64::from((byte << up) >> down)
 }
 
 // The bits read so far, and n more of one byte behind them.
@@ -43,7 +29,7 @@ pub fn field(bytes: &[u8], first: usize, count: usize) -> u64
     requires { Within bytes.now first count }
     ensures { result ≡ field bytes.now first count }
 {
-    let n = at_hand(first, count);
+    let n = (8 - first % 8).min(count);
     let mut value = more(bytes, 0, first, n);
     let mut i = n;
     while 8 <= count - i {

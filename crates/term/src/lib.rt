@@ -2,7 +2,7 @@
 // term packed. A kind other than 58 is treated as 38. Nothing here writes to a lent table.
 #![tactic(auto)]
 
-ghost use Rattle.std.specs.Prelude.{◌≡◌, ◌+◌, ◌*◌, ◌≤◌, length};
+ghost use Rattle.std.specs.Prelude.{◌≡◌, ◌+◌, ◌*◌, ◌<◌, ◌≤◌, length, MatchOption};
 ghost use Rattle.kind.specs.Kind.{term_bytes};
 ghost use Rattle.term.specs.Packed.{term_at, spare_at, count_terms};
 ghost use Rattle.term.specs.Sound.{sound_at, first_broken, table_answer};
@@ -31,10 +31,9 @@ pub struct Term {
     pub magnitude: u64,
 }
 
-// What the check of a table finds: its count of terms, a wrong length, or the place of the first broken term.
+// What the check of a table may find wrong: its length, or the term at a place, counted from 1.
 #[derive(Clone, Copy)]
-pub enum Table {
-    Sound(usize),
+pub enum Fault {
     Length,
     Broken(usize),
 }
@@ -70,49 +69,36 @@ fn spare_at(kind: u64, table: &[u8], k: usize) -> u64
 }
 
 // Whether the k-th term keeps the rules.
+#[tactic(auto, unfolding(crate::specs::Sound::sound_at))]
 fn sound_at(kind: u64, table: &[u8], k: usize) -> bool
     requires { (term_bytes kind * k + term_bytes kind ≤ length table.now) × (length table.now ≤ 768) }
     ensures { result ≡ sound_at kind table.now k }
 {
-    let spare = spare_at(kind, table, k);
-    if sound_term(kind, term_at(kind, table, k)) {
-        spare == 0
-    } else {
-        false
-    }
+    sound_term(kind, term_at(kind, table, k)) && spare_at(kind, table, k) == 0
 }
 
-// The place of the first broken term, counted from 1, or 0: the loop stops there and yields it.
-fn first_broken(kind: u64, table: &[u8]) -> usize
+// The place of the first broken term, counted from 1.
+fn first_broken(kind: u64, table: &[u8]) -> Option<usize>
     requires { length table.now ≤ 768 }
-    ensures { result ≡ first_broken kind table.now }
+    ensures { MatchOption result (first_broken kind table.now ≡ 0) (λ place. (first_broken kind table.now ≡ place) × (0 < place)) }
 {
-    let count = count_terms(kind, table);
-    let mut i: usize = 0;
-    let place = loop {
-        if count <= i {
-            break 0;
+    for k in 0..count_terms(kind, table) {
+        if !sound_at(kind, table, k) {
+            return Some(k + 1);
         }
-        if !sound_at(kind, table, i) {
-            break i + 1;
-        }
-        i += 1;
-    };
-    place
+    }
+    None
 }
 
-// The whole table: its length, then its terms.
-pub fn check_table(kind: u64, table: &[u8]) -> Table
+// The whole table: its length, then its terms. Answers their count.
+pub fn check_table(kind: u64, table: &[u8]) -> Result<usize, Fault>
     ensures { (result ≡ table_answer kind table.now) × (table.exit.now ≡ table.entry.now) }
 {
-    if sound_length(kind, table.len()) {
-        let place = first_broken(kind, table);
-        if place == 0 {
-            Table::Sound(count_terms(kind, table))
-        } else {
-            Table::Broken(place)
-        }
-    } else {
-        Table::Length
+    if !sound_length(kind, table.len()) {
+        return Err(Fault::Length);
+    }
+    match first_broken(kind, table) {
+        None => Ok(count_terms(kind, table)),
+        Some(place) => Err(Fault::Broken(place)),
     }
 }

@@ -1,22 +1,22 @@
 -- `term::check_table` meets its contract: the length decides first, then the place of the first broken term. Assumes nothing.
 use mathlib.Core.Path.{refl, sym, ◌∙◌}
-use Rattle.term.specs.Sound.{table_answer}
-use Rattle.term.proofs.Rules.{sound_length-whole, whole_widest, place_none, place_some}
+use Rattle.term.specs.Sound.{place_answer, table_answer}
+use Rattle.term.proofs.Rules.{sound_length-whole, whole_widest, place_some}
 use Rattle.term.proofs.check_table.Goals as goal
 
-pub first_broken-place-requires : goal.first_broken-place-requires
-first_broken-place-requires c = whole_widest (sound_length-whole _ _ (sym c.sound_length.ensures ∙ c.if-sound_length.true))
-
-pub returns-then-place-eq0 : goal.returns-then-place-eq0
+pub returns-then-not-sound_length : goal.returns-then-not-sound_length
 unfolding table_answer
-returns-then-place-eq0 c =
-    (rw (sym c.sound_length.ensures ∙ c.if-sound_length.true, ← c.first_broken-place.ensures, ← c.count_terms.ensures) (place_none _ _ c.if-place-eq0.true), refl)
+returns-then-not-sound_length c = (rw (sym c.sound_length.ensures ∙ c.if-not-sound_length.true), refl)
 
-pub returns-else-place-eq0 : goal.returns-else-place-eq0
-unfolding table_answer
-returns-else-place-eq0 c =
-    (rw (sym c.sound_length.ensures ∙ c.if-sound_length.true, ← c.first_broken-place.ensures) (place_some _ _ c.if-place-eq0.false), refl)
+pub first_broken-requires : goal.first_broken-requires
+first_broken-requires c = whole_widest (sound_length-whole _ _ (sym c.sound_length.ensures ∙ c.if-not-sound_length.false))
 
-pub returns-else-sound_length : goal.returns-else-sound_length
+pub returns-in-None : goal.returns-in-None
+unfolding table_answer place_answer
+returns-in-None c = (rw (sym c.sound_length.ensures ∙ c.if-not-sound_length.false, c.in-None.ensures, c.count_terms.ensures), refl)
+
+pub returns-in-Some : goal.returns-in-Some
 unfolding table_answer
-returns-else-sound_length c = (rw (sym c.sound_length.ensures ∙ c.if-sound_length.false), refl)
+returns-in-Some c =
+    let found = c.in-Some.ensures in
+    (rw (sym c.sound_length.ensures ∙ c.if-not-sound_length.false, found.0) (place_some _ _ found.1), refl)

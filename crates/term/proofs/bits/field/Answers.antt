@@ -8,7 +8,7 @@ use Rattle.term.proofs.Fields.{field_room, field_join}
 use Rattle.term.proofs.bits.field.Goals as goal
 
 pub more-value-requires : goal.more-value-requires
-more-value-requires c = omega (arith, pow_pos (64 - c.at_hand-n.result))
+more-value-requires c = omega (arith, pow_pos (64 - c.min-n.result))
 
 pub loop-i-init : goal.loop-i-init
 loop-i-init c = omega arith

@@ -8,4 +8,4 @@ pub returns : goal.returns
 returns c =
     let a = c.args in
     let pre = c.requires in
-    c.wide.ensures ∙ sym (field_piece a.bytes.now a.place a.n (λ i. omega (arith, c.type_inv.bytes i)) pre.0 pre.2)
+    c.from.ensures ∙ sym (field_piece a.bytes.now a.place a.n (λ i. omega (arith, c.type_inv.bytes i)) pre.0 pre.2)
