@@ -3,18 +3,13 @@
 // at most 800 bytes. Assumes nothing.
 #![tactic(auto)]
 
-ghost use Rattle.std.specs.Prelude.{◌≤◌, length};
-ghost use Rattle.term.specs.Packed.{count_terms};
-
 use std::io;
 use std::io::Write;
-use term::Table;
+use term::{Fault, SoundTable};
 
-fn write_terms<W: Write>(output: &mut W, kind: u64, table: &[u8], count: usize) -> io::Result<()>
-    requires { (count ≤ count_terms kind table.now) × (length table.now ≤ 768) }
-{
-    for k in 0..count {
-        let term = term::term_at(kind, table, k);
+fn write_terms<W: Write>(output: &mut W, table: SoundTable) -> io::Result<()> {
+    for k in 0..table.count() {
+        let term = table.at(k);
         let negative = u64::from(term.negative);
         words::more(
             output,
@@ -31,16 +26,15 @@ fn write_terms<W: Write>(output: &mut W, kind: u64, table: &[u8], count: usize) 
     Ok(())
 }
 
-fn write_line<W: Write>(output: &mut W, kind: u64, table: &[u8]) -> io::Result<()> {
-    let answer = term::check_table(kind, table);
-    match answer {
-        Table::Sound(count) => {
+fn write_line<W: Write>(output: &mut W, kind: u64, bytes: &[u8]) -> io::Result<()> {
+    match SoundTable::check(kind, bytes) {
+        Ok(table) => {
             words::start(output, &[0, 0])?;
-            write_terms(output, kind, table, count)?;
+            write_terms(output, table)?;
             words::end_line(output)
         }
-        Table::Length => words::line(output, &[1, 0]),
-        Table::Broken(place) => words::line(output, &[2, place as u64]),
+        Err(Fault::Length) => words::line(output, &[1, 0]),
+        Err(Fault::Broken(place)) => words::line(output, &[2, place as u64]),
     }
 }
 
@@ -49,14 +43,15 @@ fn main(rt: HostRuntime) -> io::Result<()> {
     let mut input = rt.stdin();
     let mut output = rt.stdout();
     for _ in 0..1_000_000_000u64 {
-        let Some([kind, count]) = words::record(&mut input)? else {
+        let Some(head) = words::record(&mut input)? else {
             break;
         };
+        let [kind, count]: [u64; 2] = head;
         let mut buffer = [0u8; 800];
-        let Some(table) = words::bytes(&mut input, &mut buffer, count)? else {
+        let Some(bytes) = words::bytes(&mut input, &mut buffer, count)? else {
             break;
         };
-        write_line(&mut output, kind, table)?;
+        write_line(&mut output, kind, bytes)?;
     }
     Ok(())
 }
