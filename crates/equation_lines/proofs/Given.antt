@@ -10,7 +10,7 @@ use Rattle.sheet.specs.declared.Sheet.{Sheet}
 use Rattle.sheet.specs.Range.{Width, InRange, Doubled}
 use Rattle.kind.specs.Kind.{widest}
 use Rattle.doubles.specs.Double.{exact_of}
-use Rattle.doubles.specs.Range.{accepted_temperature, accepted_density}
+use Rattle.doubles.specs.Range.{accepted_density}
 use Rattle.doubles.proofs.Write.{normal-few}
 use Rattle.bracket.specs.declared.Bracket.{Bracket}
 use Rattle.bracket.specs.Rules.{ends, minus}

@@ -39,7 +39,8 @@ struct State<'a> {
 impl<'a> State<'a> {
     fn accepted(width: u64, kind: u64, bytes: &'a [u8], t: f64, rho: f64) -> Option<Self> {
         let table = SoundTable::check(kind, bytes).ok()?;
-        if !doubles::range::accepts_temperature(58, t) || !doubles::range::accepts_density(58, rho)
+        if !doubles::range::accepts_temperature(58, t)
+            || !doubles::range::accepts_density(58, rho)
         {
             return None;
         }

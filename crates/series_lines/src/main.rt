@@ -69,7 +69,8 @@ fn taken(v: u64, b: Bracket) -> bool
 fn paired(liquid: f64, vapour: f64) -> bool
     ensures { result ≡ true → Pair liquid vapour }
 {
-    if !doubles::range::accepts_density(58, liquid) || !doubles::range::accepts_density(58, vapour)
+    if !doubles::range::accepts_density(58, liquid)
+        || !doubles::range::accepts_density(58, vapour)
     {
         return false;
     }

@@ -1,7 +1,6 @@
 -- `equation_lines::bits` is safe: an end that is exactly an f64 is no NaN. Assumes nothing.
 use mathlib.Core.Path.{◌≡◌, sym, subst}
 use mathlib.Core.Bool.{not}
-use Prim.Native.Nat.{◌^◌, ◌<◌}
 use lib.Dec.{T}
 use lib.Ieee.{Float, is_nan}
 use Rattle.sheet.specs.declared.Sheet.{Sheet}

@@ -46,8 +46,7 @@ bits-requires-2 c =
 pub pressure_gap_of-requires : goal.pressure_gap_of-requires
 pressure_gap_of-requires c =
     let s = c.args.self in
-    let k = (goal.at.pressure_gap_of-requires c).After-sums_of-g in
-    (
+    let k = (goal.at.pressure_gap_of-requires c).After-sums_of-g in (
       pressure-range c.in_ok-v.ensures s s.rho s.density c.sums_of-l.ensures c.pressure_of-of_liquid.ensures,
       pressure-range c.in_ok-v.ensures s c.args.vapour (both k).thin c.sums_of-g.ensures c.pressure_of-of_vapour.ensures,
     )
