@@ -4,8 +4,7 @@
 // so nothing here judges an answer.
 #![tactic(auto)]
 
-mod asked; // asked.rt: one case through one function, and its line
-mod double; // double.rt: f64s by their bits
+mod asked; // asked.rt: one case through the functions, and its lines
 mod kinds; // kinds.rt: the limits of kind 58, and kinds that are neither
 mod gaps; // gaps.rt: targets, tolerances, sides, least gaps, stiffnesses
 mod states; // states.rt: temperatures and densities
@@ -19,21 +18,37 @@ use std::io::Write;
 // One term c 0, d 1, t 0 with coefficient 1/1000: what is asked with it is accepted, unless the case is about something else.
 pub const EASY: [u8; 9] = [4, 0, 0, 9, 24, 78, 114, 160, 0];
 
+const NO_WIDTHS: [u64; 7] = [0, 31, 33, 52, 54, 4294967328, 18446744073709551615];
+
+const NO_KINDS: [u64; 9] = [
+    0,
+    37,
+    39,
+    57,
+    59,
+    60,
+    580,
+    4294967334,
+    18446744073709551615,
+];
+
 fn main(rt: HostRuntime) -> io::Result<()> {
     let mut output = rt.stdout();
-    at(&mut output, 32)?;
-    at(&mut output, 53)?;
-    widths::none(&mut output, 0)?;
-    widths::none(&mut output, 31)?;
-    widths::none(&mut output, 33)?;
-    widths::none(&mut output, 52)?;
-    widths::none(&mut output, 54)?;
-    widths::none(&mut output, 4294967328)?;
-    widths::none(&mut output, 18446744073709551615)?;
-    of_kind_58(&mut output, 32)?;
-    of_kind_58(&mut output, 53)?;
-    no_kinds(&mut output, 32)?;
-    no_kinds(&mut output, 53)
+    for width in [32, 53] {
+        of_kind_38(&mut output, width)?;
+    }
+    for width in NO_WIDTHS {
+        widths::none(&mut output, width)?;
+    }
+    for width in [32, 53] {
+        of_kind_58(&mut output, width)?;
+    }
+    for width in [32, 53] {
+        for kind in NO_KINDS {
+            kinds::none(&mut output, width, kind)?;
+        }
+    }
+    Ok(())
 }
 
 fn of_kind_58<W: Write>(output: &mut W, width: u64) -> io::Result<()> {
@@ -45,25 +60,13 @@ fn of_kind_58<W: Write>(output: &mut W, width: u64) -> io::Result<()> {
     kinds::targets(output, width)
 }
 
-fn no_kinds<W: Write>(output: &mut W, width: u64) -> io::Result<()> {
-    kinds::none(output, width, 0)?;
-    kinds::none(output, width, 37)?;
-    kinds::none(output, width, 39)?;
-    kinds::none(output, width, 57)?;
-    kinds::none(output, width, 59)?;
-    kinds::none(output, width, 60)?;
-    kinds::none(output, width, 580)?;
-    kinds::none(output, width, 4294967334)?;
-    kinds::none(output, width, 18446744073709551615)
-}
-
-fn at<W: Write>(output: &mut W, width: u64) -> io::Result<()> {
+fn of_kind_38<W: Write>(output: &mut W, width: u64) -> io::Result<()> {
     states::temperatures(output, width)?;
     states::densities(output, width)?;
     tables::lengths(output, width)?;
     tables::terms(output, width)?;
     tables::ceilings(output, width)?;
-    tables::empty(output, width)?;
+    tables::empty(output, width, 38)?;
     gaps::targets(output, width)?;
     gaps::tolerances(output, width)?;
     gaps::sides(output, width)?;

@@ -1,16 +1,11 @@
 // A width that is neither 32 nor 53 is asked before the table.
-use crate::{EASY, asked, tables};
+use crate::EASY;
+use crate::asked::Asked;
+use crate::tables;
 use std::io;
 use std::io::Write;
 
 pub fn none<W: Write>(output: &mut W, width: u64) -> io::Result<()> {
-    asked::named(output, width, "state sheet", "sound table")?;
-    asked::sheet(output, width, &EASY, 300.0, 1.0)?;
-    asked::named(output, width, "density check", "sound table")?;
-    asked::density(output, width, &EASY, 300.0, 1.0, 0.0, 1000000.0)?;
-    asked::named(output, width, "pair check", "sound table")?;
-    asked::pair(
-        output, width, &EASY, 300.0, 322.125, 321.875, 1000000.0, 1000000.0,
-    )?;
-    tables::empty(output, width)
+    Asked::table(width, 38, "sound table", &EASY).each(output, 300.0)?;
+    tables::empty(output, width, 38)
 }

@@ -10,7 +10,7 @@ pub fn decimal(out: &mut [u8; 97], at: usize, n: u64) -> usize
     ensures upper_bound { result ≤ at + 21 }
 {
     let end = digits(out, at, n, 10, false, 20);
-    put(out, end, b' ')
+    lent::put_byte(out, end, b' ')
 }
 
 // Sixteen hexadecimal digits and one byte more.
@@ -20,7 +20,7 @@ pub fn hex(out: &mut [u8; 97], at: usize, n: u64, after: u8) -> usize
     ensures upper_bound { result ≤ at + 17 }
 {
     let end = digits(out, at, n, 16, true, 16);
-    put(out, end, after)
+    lent::put_byte(out, end, after)
 }
 
 // The digits of n in base, with zeros in front up to `most` digits if they are asked for. Answers the place after them.
@@ -46,7 +46,7 @@ fn digits(out: &mut [u8; 97], at: usize, n: u64, base: u64, zeros: bool, most: u
 fn more(n: u64, base: u64, zeros: bool) -> bool
     ensures { result ≡ (zeros || leb base n) }
 {
-    if zeros { true } else { base <= n }
+    zeros || base <= n
 }
 
 // The last digit.
@@ -56,15 +56,7 @@ fn last(out: &mut [u8; 97], at: usize, n: u64, base: u64) -> usize
     requires at_bound { at < 97 }
     ensures { Put out.old at (glyph_of (n % base) ∷ []) out.new result }
 {
-    put(out, at, glyph(n % base))
-}
-
-fn put(out: &mut [u8; 97], at: usize, byte: u8) -> usize
-    requires { at < 97 }
-    ensures { Put out.old at (byte ∷ []) out.new result }
-{
-    out[at] = byte;
-    at + 1
+    lent::put_byte(out, at, glyph(n % base))
 }
 
 // A digit's letter.

@@ -6,7 +6,7 @@ mod digits;
 mod proposal;
 mod word;
 
-ghost use Rattle.std.specs.Prelude.{◌≡◌};
+ghost use Rattle.std.specs.Prelude.{◌≡◌, take};
 ghost use Rattle.line.specs.Line.{Within, held, line_of};
 
 use digits::{decimal, hex};
@@ -18,6 +18,15 @@ pub use word::{kind_of, width_of};
 pub struct Line {
     pub bytes: [u8; 97],
     pub len: usize,
+}
+
+impl Line {
+    pub fn text(&self) -> &[u8]
+        requires { Within self.now }
+        ensures { result.now ≡ take self.now.len self.now.bytes }
+    {
+        &self.bytes[..self.len]
+    }
 }
 
 // The line for a proposal's count, the answer's number and place, and its two ends as f64 bits.

@@ -39,18 +39,10 @@ fn word(bytes: &[u8; 40], at: usize) -> u64
     ensures { result ≡ bytes_number bytes.now at 8 }
 {
     let mut n: u64 = 0;
-    let mut i: usize = 0;
-    while i < 8 {
-        n = n * 256 + wide(bytes[at + i]);
-        i += 1;
+    for i in 0..8 {
+        n = n * 256 + u64::from(bytes[at + i]);
     }
     n
-}
-
-fn wide(b: u8) -> u64
-    ensures { (result ≡ b) × (result < 256) }
-{
-    b as u64
 }
 
 // The f64 of a bit pattern; every NaN's pattern gives the one NaN.

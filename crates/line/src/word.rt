@@ -5,26 +5,21 @@ ghost use Rattle.line.specs.Word.{spells, named, width_of, kind_of};
 fn spells(word: &[u8], a: u8, b: u8) -> bool
     ensures { result ≡ spells word.now a b }
 {
-    if word.len() != 2 {
-        return false;
-    }
-    if word[0] != a {
-        return false;
-    }
-    word[1] == b
+    word.len() == 2 && word[0] == a && word[1] == b
 }
 
 // One of two numbers by its digits, and 0 for any other word.
+#[tactic(auto, unfolding(crate::specs::Word::named))]
 fn named(word: &[u8], a: u8, b: u8, first: u64, c: u8, d: u8, second: u64) -> u64
     ensures { result ≡ named word.now a b first c d second }
 {
     if spells(word, a, b) {
-        return first;
+        first
+    } else if spells(word, c, d) {
+        second
+    } else {
+        0
     }
-    if spells(word, c, d) {
-        return second;
-    }
-    0
 }
 
 // 0, which is no width, for any word but 32 and 53.

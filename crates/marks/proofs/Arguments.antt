@@ -1,23 +1,26 @@
--- Digits as the loops test them; an end of the exponential's argument is in range, and from 2^-57 to 64. Assumes nothing.
+-- Numbers in range and above zero; an end of the exponential's argument is in range, and from 2^-57 to 64. Assumes nothing.
 use Rattle.std.proofs.Common.{◌≡◌, ℕ, suc, ◌+◌, ◌-◌, ◌*◌, ◌/◌, ◌%◌, ◌^◌, ◌<◌, ◌≤◌, false, refl, inr, le_of_lt, mul-le-mul_right, div-lt_iff_lt-mul, le-div_iff_mul-le, arith, lit≤, pow_pos, pow_mono, pow-add}
-use Rattle.exact.specs.Fraction.{nat, parts, ◌≼◌}
+use Rattle.exact.specs.Fraction.{nat, parts, ◌≼◌, ◌≺◌}
 use Rattle.exact.proofs.Fraction.Order.{≼_refl, ≼-≈-trans}
 use Rattle.exact.proofs.Fraction.Parts.{parts-≼, parts-nat}
 use Rattle.sheet.specs.declared.Sheet.{Sheet}
 use Rattle.sheet.specs.Number.{bias, value, Digits}
 use Rattle.sheet.specs.Range.{InRange, Width}
 use Rattle.sheet.proofs.Live.{bias-is, one_shl}
+use Rattle.sheet.proofs.Operations.{digits-pos}
 use Rattle.bracket.specs.Rules.{ends}
 use Rattle.bracket.specs.Held.{Held}
 use Rattle.series.specs.Terms.{Factor}
 use Rattle.marks.specs.Argument.{Argument}
 
-pub digits_of : (v m : ℕ) → m / 2 ^ v ≡ 1 → Digits v m
-digits_of v m h =
-    let p = pow_pos v in
-    let a : 1 * 2 ^ v ≤ m = (le-div_iff_mul-le p).0 (omega (arith, h)) in
-    let b : m < 2 * 2 ^ v = (div-lt_iff_lt-mul p).0 (omega (arith, h)) in
-    record { low = omega (arith, a); high = omega (arith, b) }
+-- digits at a place in range
+pub spaced : {v : ℕ} (s : Sheet) → Width v → Digits v s.m → 182144 ≤ s.e → s.e ≤ 342144 → InRange v s
+spaced s w d a b =
+    let z = bias-is in
+    record { width = w; within = record { normal = inr d; exponent = inr (omega arith, omega arith) } }
+
+pub positive : (v : ℕ) (s : Sheet) → s.neg ≡ false → Digits v s.m → nat 0 ≺ value s
+positive v s n d = digits-pos s n (let p = pow_pos v in omega (arith, d.low))
 
 -- the digits of one
 pub one-digits : {v : ℕ} → Width v → Digits v (1 * 2 ^ v % 2 ^ 64)

@@ -5,15 +5,15 @@ use crate::operands::{argument, below};
 #[unsafe(no_mangle)]
 pub extern "C" fn marks_exponential(width: u64, list: &[u64]) -> u64 {
     let v = below(width);
-    let mut total = 0;
-    let mut at = 0;
-    while 6 <= list.len() - at {
-        let r = series::expneg(v, argument(v, list, at));
-        total = std::num::wrapping_add_u64(total, r.lo.m);
-        total = std::num::wrapping_add_u64(total, r.lo.e);
-        total = std::num::wrapping_add_u64(total, r.hi.m);
-        total = std::num::wrapping_add_u64(total, r.hi.e);
-        at = at + 6;
+    let mut total: u64 = 0;
+    let (brackets, _) = list.as_chunks::<6>();
+    for b in brackets {
+        let r = series::expneg(v, argument(v, [b[0], b[1], b[2]], [b[3], b[4], b[5]]));
+        total = total
+            .wrapping_add(r.lo.m)
+            .wrapping_add(r.lo.e)
+            .wrapping_add(r.hi.m)
+            .wrapping_add(r.hi.e);
     }
     total
 }

@@ -1,8 +1,8 @@
-// Sheet numbers and brackets of v + 1 bits from lists of words: sign, significand, place. What is no sheet number in range counts as zero,
-// and as a divisor as one. Assumes nothing.
-ghost use Rattle.std.specs.Prelude.{◌+◌, ◌≤◌, length};
+// Sheet numbers and brackets of v + 1 bits from words: sign, significand, place. What is no sheet number in range counts as zero, and as a
+// divisor as one. Assumes nothing.
+ghost use Rattle.std.specs.Prelude.{◌≡◌, ◌≤◌, IfSome};
 ghost use Rattle.exact.specs.Fraction.{nat, ◌≺◌};
-ghost use Rattle.sheet.specs.Number.{value};
+ghost use Rattle.sheet.specs.Number.{value, Digits};
 ghost use Rattle.sheet.specs.Range.{InRange, Width};
 ghost use Rattle.bracket.specs.Rules.{ends};
 ghost use Rattle.bracket.specs.Held.{Held};
@@ -19,87 +19,67 @@ pub fn below(width: u64) -> u64
     if width == 53 { 52 } else { 31 }
 }
 
-fn made(v: u64, neg: bool, m: u64, e: u64) -> Sheet
+// The number of v + 1 digits at a place between two others.
+fn placed(v: u64, neg: bool, m: u64, e: u64, least: u64, most: u64) -> Option<Sheet>
+    requires { Width v }
+    ensures { IfSome result (λ s. (s.neg ≡ neg) × Digits v s.m × (least ≤ s.e) × (s.e ≤ most)) }
+{
+    if m >> v != 1 || e < least || most < e {
+        return None;
+    }
+    Some(Sheet { neg, m, e })
+}
+
+fn one(v: u64) -> Sheet
+    requires { Width v }
+    ensures { Argument v result }
+{
+    Sheet {
+        neg: false,
+        m: 1 << v,
+        e: 262144 - v,
+    }
+}
+
+pub fn operand(v: u64, words: [u64; 3]) -> Sheet
     requires { Width v }
     ensures { InRange v result }
 {
-    let zero = Sheet {
-        neg: false,
-        m: 0,
-        e: 0,
-    };
-    if m >> v != 1 {
-        return zero;
+    match placed(v, words[0] != 0, words[1], words[2], 182144, 342144) {
+        Some(s) => s,
+        None => Sheet::ZERO,
     }
-    if e < 182144 {
-        return zero;
-    }
-    if 342144 < e {
-        return zero;
-    }
-    Sheet { neg, m, e }
-}
-
-pub fn operand(v: u64, list: &[u64], at: usize) -> Sheet
-    requires { Width v × (at + 3 ≤ length list.now) }
-    ensures { InRange v result }
-{
-    made(v, list[at] != 0, list[at + 1], list[at + 2])
 }
 
 // Its sign is left out.
-pub fn divisor(v: u64, list: &[u64], at: usize) -> Sheet
-    requires { Width v × (at + 3 ≤ length list.now) }
+pub fn divisor(v: u64, words: [u64; 3]) -> Sheet
+    requires { Width v }
     ensures { InRange v result × (nat 0 ≺ value result) }
 {
-    let b = made(v, false, list[at + 1], list[at + 2]);
-    let m = b.m;
-    if m == 0 {
-        Sheet {
-            neg: false,
-            m: 1 << v,
-            e: 262144 - v,
-        }
-    } else {
-        Sheet {
-            neg: false,
-            m,
-            e: b.e,
-        }
+    match placed(v, false, words[1], words[2], 182144, 342144) {
+        Some(s) => s,
+        None => one(v),
     }
 }
 
 // An end of the exponential's argument; what is no number from 2^-57 to 64 counts as one.
-fn end(v: u64, list: &[u64], at: usize) -> Sheet
-    requires { Width v × (at + 3 ≤ length list.now) }
+fn end(v: u64, words: [u64; 3]) -> Sheet
+    requires { Width v }
     ensures { Argument v result }
 {
-    let m = list[at + 1];
-    let e = list[at + 2];
-    let one = Sheet {
-        neg: false,
-        m: 1 << v,
-        e: 262144 - v,
-    };
-    if m >> v != 1 {
-        return one;
+    match placed(v, false, words[1], words[2], 262087 - v, 262149 - v) {
+        Some(s) => s,
+        None => one(v),
     }
-    if e < 262087 - v {
-        return one;
-    }
-    if 262149 - v < e {
-        return one;
-    }
-    Sheet { neg: false, m, e }
 }
 
 // Two ends, or the lower one twice where they are not in order.
-pub fn argument(v: u64, list: &[u64], at: usize) -> Bracket
-    requires { Width v × (at + 6 ≤ length list.now) }
+pub fn argument(v: u64, lo: [u64; 3], hi: [u64; 3]) -> Bracket
+    requires { Width v }
     ensures { Held v result × Factor (ends result) }
 {
-    let lo = end(v, list, at);
-    let hi = end(v, list, at + 3);
+    let lo = end(v, lo);
+    let hi = end(v, hi);
     if sheet::at_most(lo, hi) {
         Bracket { lo, hi }
     } else {

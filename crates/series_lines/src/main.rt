@@ -8,13 +8,35 @@ ghost use Rattle.std.specs.Prelude.{◌≡◌, true};
 ghost use Rattle.sheet.specs.Range.{Width};
 ghost use Rattle.bracket.specs.Held.{Held};
 ghost use Rattle.bracket.specs.Rules.{ends};
+ghost use Rattle.series.specs.Pair.{Pair};
 ghost use Rattle.series.specs.Terms.{Taken};
 ghost use Rattle.series_lines.specs.End.{End};
 
 use bracket::Bracket;
 use sheet::Sheet;
 use std::io;
-use std::io::{Read, Write};
+
+// A series and its argument.
+#[derive(Clone, Copy)]
+enum Asked {
+    Exponential(Bracket),
+    Logarithm { liquid: f64, vapour: f64 },
+}
+
+impl From<[u64; 8]> for Asked {
+    fn from(record: [u64; 8]) -> Asked {
+        match record[1] {
+            0 => Asked::Exponential(Bracket {
+                lo: words::number(record[2], record[3], record[4]),
+                hi: words::number(record[5], record[6], record[7]),
+            }),
+            _ => Asked::Logarithm {
+                liquid: words::double(record[2]),
+                vapour: words::double(record[3]),
+            },
+        }
+    }
+}
 
 // Whether the number is an end that the exponential takes: zero, or from 2^-292 to 128, which are 2^v at the places 261852 - v and 262151 - v.
 fn usable(v: u64, s: Sheet) -> bool
@@ -23,22 +45,16 @@ fn usable(v: u64, s: Sheet) -> bool
 {
     let m = s.m;
     let e = s.e;
-    if !words::usable(v, s) {
-        return false;
-    }
-    if s.neg {
+    if !words::usable(v, s) || s.neg {
         return false;
     }
     if m == 0 {
         return true;
     }
-    if e < 261852 - v {
-        return false;
-    }
     if e == 262151 - v {
         return m == 1 << v;
     }
-    e < 262151 - v
+    261852 - v <= e && e < 262151 - v
 }
 
 // Whether the exponential takes the bracket.
@@ -46,89 +62,30 @@ fn taken(v: u64, b: Bracket) -> bool
     requires { Width v }
     ensures { result ≡ true → Held v b × Taken (ends b) }
 {
-    if usable(v, b.lo) {
-        if usable(v, b.hi) {
-            return sheet::at_most(b.lo, b.hi);
-        }
-    }
-    false
+    usable(v, b.lo) && usable(v, b.hi) && sheet::at_most(b.lo, b.hi)
 }
 
-fn none() -> Bracket {
-    let zero = words::zero();
-    Bracket { lo: zero, hi: zero }
-}
-
-fn exponential(v: u64, x: Bracket) -> Bracket
-    requires { Width v }
+// Whether the densities are accepted, and in order.
+fn paired(liquid: f64, vapour: f64) -> bool
+    ensures { result ≡ true → Pair liquid vapour }
 {
-    if taken(v, x) {
-        series::expneg(v, x)
-    } else {
-        none()
+    if !doubles::range::accepts_density(58, liquid)
+        || !doubles::range::accepts_density(58, vapour)
+    {
+        return false;
     }
+    doubles::range::at_most(vapour, liquid)
 }
 
-// At a word's width.
-fn exponential_at(width: u64, x: Bracket) -> Bracket {
-    let v = words::digits_of(width);
-    if 0 < v {
-        return exponential(v, x);
-    }
-    none()
-}
-
-fn logarithm(v: u64, liquid: f64, vapour: f64) -> Bracket
-    requires { Width v }
-{
-    if doubles::range::accepts_density(58, liquid) {
-        if doubles::range::accepts_density(58, vapour) {
-            if doubles::range::at_most(vapour, liquid) {
-                return series::ln_ratio(v, liquid, vapour);
-            }
+fn answer(width: u64, asked: Asked) -> Option<Bracket> {
+    let v = words::digits_of(width)?;
+    match asked {
+        Asked::Exponential(x) if taken(v, x) => Some(series::expneg(v, x)),
+        Asked::Logarithm { liquid, vapour } if paired(liquid, vapour) => {
+            Some(series::ln_ratio(v, liquid, vapour))
         }
+        _ => None,
     }
-    none()
-}
-
-// At a word's width.
-fn logarithm_at(width: u64, liquid: f64, vapour: f64) -> Bracket {
-    let v = words::digits_of(width);
-    if 0 < v {
-        return logarithm(v, liquid, vapour);
-    }
-    none()
-}
-
-// The f64 of a pattern below the infinity's, else zero, which is no density.
-fn density(w: u64) -> f64 {
-    if w < 0x7ff0_0000_0000_0000 {
-        f64::from_bits(w)
-    } else {
-        0.0
-    }
-}
-
-fn write_bracket<W: Write>(output: &mut W, b: Bracket) -> io::Result<()> {
-    words::first_number(output, b.lo)?;
-    words::next_number(output, b.hi)
-}
-
-// One record is read and answered; false where the input has ended.
-fn turn<R: Read, W: Write>(input: &mut R, output: &mut W) -> io::Result<bool> {
-    let mut r = [0u64; 8];
-    if !words::read(input, &mut r)? {
-        return Ok(false);
-    }
-    if r[1] == 0 {
-        let lo = words::number(r[2], r[3], r[4]);
-        let hi = words::number(r[5], r[6], r[7]);
-        write_bracket(output, exponential_at(r[0], Bracket { lo, hi }))?;
-    } else {
-        write_bracket(output, logarithm_at(r[0], density(r[2]), density(r[3])))?;
-    }
-    words::end_line(output)?;
-    Ok(true)
 }
 
 // A proved loop has to end, so it makes at most as many turns as no run uses up.
@@ -136,9 +93,11 @@ fn main(rt: HostRuntime) -> io::Result<()> {
     let mut input = rt.stdin();
     let mut output = rt.stdout();
     for _ in 0..u64::MAX {
-        if !turn(&mut input, &mut output)? {
+        let Some(record) = words::record(&mut input)? else {
             break;
-        }
+        };
+        let ends = answer(record[0], Asked::from(record)).map(|b| [b.lo, b.hi]);
+        words::answer_line(&mut output, ends)?;
     }
     Ok(())
 }

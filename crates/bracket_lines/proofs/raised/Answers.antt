@@ -10,34 +10,14 @@ use Rattle.bracket.specs.Held.{Held}
 use Rattle.bracket.proofs.PowerSteps.{power_zero, power-suc}
 use Rattle.bracket_lines.proofs.raised.Goals as goal
 
-pub whole-p-requires : goal.whole-p-requires
-whole-p-requires c = (c.requires.lo.width, omega arith)
-
 pub loop-k-init : goal.loop-k-init
-loop-k-init c = (c.whole-p.ensures ∙ sym (power_zero (suc c.args.v) c.args.b), omega arith, λ j l. absurd (omega arith))
-
-pub held-requires : goal.held-requires
-held-requires c = c.requires.lo.width
-
-pub product-p-requires : goal.product-p-requires
-product-p-requires c = (c.held.ensures c.if-held.true, c.requires)
-
-pub overflow_add-k : goal.overflow_add-k
-overflow_add-k c = omega arith
-
-pub loop-k-smaller : goal.loop-k-smaller
-loop-k-smaller c = omega arith
+loop-k-init c = (c.whole-p.ensures ∙ sym (power_zero (suc c.args.v) c.args.b), λ j l. absurd (omega arith))
 
 pub loop-k-preserved : goal.loop-k-preserved
 loop-k-preserved c =
     let v = c.args.v in
     let b = c.args.b in
     let l = c.loop-k in
-    let h : Held v (power (suc v) b l.k) = subst (Held v) l.invariant.0 (c.held.ensures c.if-held.true) in
+    let h : Held v (power (suc v) b l.k) = subst (Held v) l.invariant.0 (c.held.ensures c.if-not-held.false) in
     let e = ap (λ (q : Bracket). times (suc v) (ends q) (ends b)) l.invariant.0 ∙ sym (power-suc (suc v) b l.k) ∙ ap (power (suc v) b) (sym (add-one l.k)) in
-    (c.product-p.ensures ∙ e, omega arith, below_more (λ (j : ℕ). Held v (power (suc v) b j)) l.k l.invariant.2 h)
-
-pub power-requires : goal.power-requires
-power-requires c =
-    let l = c.loop-k in
-    record { base = c.requires; each = λ j f. l.invariant.2 j (omega arith) }
+    (c.product-p.ensures ∙ e, below_more (λ (j : ℕ). Held v (power (suc v) b j)) l.k l.invariant.1 h)

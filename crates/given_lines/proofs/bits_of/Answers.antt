@@ -10,5 +10,5 @@ use Rattle.given_lines.proofs.bits_of.Goals as goal
 
 pub float_to_bits-result : goal.float_to_bits-result
 float_to_bits-result c =
-    let f = c.fits.ensures c.if-fits.true in
+    let f = c.fits.ensures c.if-not-fits.false in
     subst (λ (x : Float). T (not (is_nan x))) (sym c.double_of.ensures) (no_nan _ (double_of-finite _ (sheet_double _ f.0 f.1)))

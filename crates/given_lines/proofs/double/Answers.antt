@@ -1,10 +1,17 @@
--- `given_lines::double` is safe: a field below 2047 is a finite f64's. Assumes nothing.
-use mathlib.Core.Path.{refl}
-use Rattle.doubles.proofs.Pattern.{field_finite, number-pattern}
+-- `given_lines::double` is safe: it gives only what is finite. Assumes nothing.
+use mathlib.Core.Path.{◌≡◌, sym, ◌∙◌}
+use mathlib.Core.Bool.{true, false≢true}
+use lib.Dec.{T}
+use lib.Ieee.{Float, nan, inf, fin}
+use lib.Ieee.Scale.{finite}
+use Rattle.std.specs.Float.{float_is_finite}
 use Rattle.given_lines.proofs.double.Goals as goal
 
-pub float_from_bits-bits : goal.float_from_bits-bits
-float_from_bits-bits c = number-pattern c.args.bits c.if-bits-gt2046.false
+tested : (x : Float) → float_is_finite x ≡ true → T (finite x)
+unfolding float_is_finite
+tested nan h = absurd (false≢true h)
+tested (inf s) h = absurd (false≢true h)
+tested (fin s m e) h = tt
 
 pub given-requires : goal.given-requires
-given-requires c = (c.requires, field_finite c.args.bits _ refl c.if-bits-gt2046.false)
+given-requires c = (c.in_ok-v.ensures, tested _ (sym c.is_finite.ensures.value ∙ c.if-not-is_finite.false))

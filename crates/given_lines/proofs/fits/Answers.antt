@@ -1,6 +1,5 @@
 -- `given_lines::fits` meets its contract: what passes the tests is a multiple of 2^-1074 below 2^1024. Assumes nothing.
 use mathlib.Core.Path.{◌≡◌, sym, subst, ◌∙◌}
-use mathlib.Core.Bool.{false≢true}
 use Prim.Native.Nat.{ℕ, suc, ◌+◌, ◌-◌, ◌*◌, ◌/◌, ◌%◌, ◌^◌, ◌≤◌, ◌<◌}
 use native.Mathlib.Nat.{mod-eq_of_lt, mod-lt, div-add-mod', lt_of_le_of_lt, lt_of_lt_of_le, div-mul-le_self, mul_assoc, mul-le-mul_right, zero-mul}
 use native.Mathlib.Omega.{arith}
@@ -44,12 +43,6 @@ zeros m t e g z l =
 
 back : (m t : ℕ) → m < 2 ^ 64 → m / 2 ^ t * 2 ^ t % 2 ^ 64 ≡ m / 2 ^ t * 2 ^ t
 back m t h = mod-eq_of_lt (lt_of_le_of_lt (div-mul-le_self m (2 ^ t)) h)
-
-pub returns-then-m-v-gt1 : goal.returns-then-m-v-gt1
-returns-then-m-v-gt1 c h = absurd (false≢true h)
-
-pub returns-then-v-e : goal.returns-then-v-e
-returns-then-v-e c h = absurd (false≢true h)
 
 pub returns-then-e-ge261070 : goal.returns-then-e-ge261070
 returns-then-e-ge261070 c h =

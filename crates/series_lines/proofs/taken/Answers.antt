@@ -1,27 +1,16 @@
 -- `series_lines::taken` meets its contract: both ends are usable and in order. Assumes nothing.
 use mathlib.Core.Path.{sym, ◌∙◌}
-use mathlib.Core.Bool.{true≢false}
+use mathlib.Core.Bool.{false≢true}
 use Rattle.exact.proofs.Fraction.Order.{leq-true}
-use Rattle.sheet.proofs.Live.{range_spelled}
+use Rattle.series_lines.proofs.taken.Goals.{then-usable, else-usable}
 use Rattle.series_lines.proofs.taken.Goals as goal
 
-pub at_most-requires : goal.at_most-requires
-at_most-requires c =
-    record {
-      v = c.args.v;
-      first = range_spelled (c.usable.ensures c.if-usable.true).range;
-      second = range_spelled (c.usable-then-usable.ensures c.if-usable-2.true).range;
-    }
-
 pub returns-then-usable-2 : goal.returns-then-usable-2
-returns-then-usable-2 c = λ t.
-    let l = c.usable.ensures c.if-usable.true in
-    let h = c.usable-then-usable.ensures c.if-usable-2.true in
-    let o = leq-true _ _ (sym c.at_most.ensures ∙ t) in
-    (record { lo = l.range; hi = h.range; order = o }, record { order = o; above = l.above; sized = record { low = l.sized; high = h.sized } })
-
-pub returns-else-usable-2 : goal.returns-else-usable-2
-returns-else-usable-2 c = λ t. absurd (true≢false (sym t))
-
-pub returns-else-usable : goal.returns-else-usable
-returns-else-usable c = λ t. absurd (true≢false (sym t))
+returns-then-usable-2 c t = elim c.if-usable.branch [
+  | then-usable w ↦
+      let l = c.usable.ensures w.if-usable.true in
+      let h = w.usable-then-usable.ensures (sym w.value-is ∙ c.if-usable-2.true) in
+      let o = leq-true _ _ (sym c.at_most.ensures ∙ t) in
+      (record { lo = l.range; hi = h.range; order = o }, record { order = o; above = l.above; sized = record { low = l.sized; high = h.sized } })
+  | else-usable w ↦ absurd (false≢true (sym w.if-usable.false ∙ sym w.value-is ∙ c.if-usable-2.true))
+]

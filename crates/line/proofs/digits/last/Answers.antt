@@ -6,4 +6,4 @@ pub glyph-requires : goal.glyph-requires
 glyph-requires c = lt_of_lt_of_le (mod-lt _ c.requires.base_nonzero) c.requires.base_bound
 
 pub returns : goal.returns
-returns c = rw (← c.glyph.ensures) c.put.ensures
+returns c = rw (← c.glyph.ensures) c.put_byte.ensures
