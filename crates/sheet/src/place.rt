@@ -111,7 +111,7 @@ fn finished(v: u64, up: bool, neg: bool, x: Found) -> Sheet
 }
 
 // The same where no digit is missing, so that there is no zero to look for.
-// Stays: tried without it; looking for a zero each time costs the bench program 7 in 100 of its instructions.
+// Stays: tried without it; looking for a zero each time costs the bench program 5 in 100 more instructions.
 fn ended(v: u64, up: bool, neg: bool, x: Found) -> Sheet
     requires { Width v × Digits v x.m × (x.e < 2 ^ 63) }
     ensures { result ≡ signed neg (finish (away up neg) x.sticky (suc v) (record { m = x.m; e = x.e })) }
