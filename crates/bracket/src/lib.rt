@@ -1,6 +1,7 @@
 // Brackets of two sheet numbers of 32 or 53 bits (01, "Sheet numbers and brackets"; 02 d): given values, the four operations, powers, the
 // last addend of a series once more, and an upper end so many sheet numbers on. A function is told v, one less than the count of bits. Every
 // function's contract is the rule itself. Assumes nothing.
+// Stays: `Held v b` in contracts: an invariant of `Bracket` cannot name v, which C gives at run time.
 #![tactic(auto)]
 
 mod values; // values.rt: given values and whole numbers

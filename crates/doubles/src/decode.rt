@@ -8,7 +8,8 @@ ghost use Rattle.doubles.specs.Decoded.{Decoded};
 
 use sheet::Sheet;
 
-// As ± m * 2^e, with the place as a sheet number holds it; m is exact and need not have all digits of a width. An exponent's field of 0 stands for a subnormal f64 or a zero: no leading digit, and the field counts as 1.
+// The value as it is, not rounded: the digits need not be as many as a width has. An exponent's field of 0 stands for a subnormal f64 or a
+// zero: no leading digit, and the field counts as 1.
 pub fn decode(x: f64) -> Sheet
     requires { T (finite x) }
     ensures { Decoded x result }

@@ -1,4 +1,5 @@
 // Which f64s the inputs accept by the kind of table, and comparisons, by exact value. Each contract is an equation with a rule of specs/.
+// Stays: one function a quantity: each has a rule of its own to meet (`accepted_density` and its like), which names the same limits.
 ghost use Rattle.std.specs.Prelude.{◌≡◌, not, T};
 ghost use Rattle.std.specs.Float.Ieee.Scale.{finite};
 ghost use Rattle.exact.specs.Fraction.{nat, leq};

@@ -77,7 +77,8 @@ fn ordered(v: u64, up: bool, a: Sheet, b: Sheet) -> Sheet
     }
 }
 
-// The sum of two numbers by their parts: a number that is handed over whole is copied two words at a time, and waits until both are stored.
+// The sum of two numbers.
+// Stays: by their parts, for a number that is handed over whole is copied two words at a time, and waits until both are stored.
 fn total(v: u64, up: bool, am: u64, bm: u64, ae: u64, be: u64, aneg: bool, bneg: bool) -> Sheet
     requires { InRange v (record { neg = aneg; m = am; e = ae }) × InRange v (record { neg = bneg; m = bm; e = be }) }
     ensures { result ≡ round up (suc v) (value (record { neg = aneg; m = am; e = ae }) ⊕ value (record { neg = bneg; m = bm; e = be })) }

@@ -1,6 +1,8 @@
 // Sheet numbers of 32 or 53 bits (01, "Sheet numbers and brackets"; 02 d): rounding, sum, difference, product, quotient, comparison and
 // negation of single ends, given values, and the sheet number so many further on. A function that rounds is told v, one less than the count
 // of bits: 31 or 52. Every function's contract is the rule itself. Assumes nothing.
+// Stays: `Width v` and `InRange v a` in contracts: C gives v at run time, and a const parameter would make every function twice.
+// Stays: v and up as two parameters: v is one for a whole call, up another at each end, so that a struct would be made at every call.
 #![tactic(auto)]
 
 mod add; // add.rt: sum and difference

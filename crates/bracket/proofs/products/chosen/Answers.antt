@@ -31,11 +31,11 @@ returns-then-a-2 c =
     subst (Meets k.v k.a k.b) (sym c.met-then-a-2.ensures)
     (meets true false true h.0 h.1 (sign-of k.b.hi c.if-b.true) (sign-of k.a.hi c.if-a.false) (sign-of k.a.lo c.if-a-2.true))
 
-pub returns-else-a-2 : goal.returns-else-a-2
-returns-else-a-2 c =
+pub returns-then-b : goal.returns-then-b
+returns-then-b c =
     let k = c.args in
     let h = c.requires in
-    subst (Meets k.v k.a k.b) (sym c.met-else-a-2.ensures)
+    subst (Meets k.v k.a k.b) (sym c.met-then-b.ensures)
     (meets true false false h.0 h.1 (sign-of k.b.hi c.if-b.true) (sign-of k.a.hi c.if-a.false) (sign-of k.a.lo c.if-a-2.false))
 
 pub returns-then-a-3 : goal.returns-then-a-3
@@ -46,12 +46,12 @@ returns-then-a-3 c =
     subst (Meets k.v k.a k.b) (sym c.met-then-a-3.ensures)
     (meets-comm (meets true false true h.1 h.0 (sign-of k.a.hi c.if-a-3.true) (sign-of k.b.hi b) (sign-of k.b.lo (signs_below k.b.lo.neg k.b.hi.neg b h.2))))
 
-pub returns-else-a-3 : goal.returns-else-a-3
-returns-else-a-3 c =
+pub returns : goal.returns
+returns c =
     let k = c.args in
     let h = c.requires in
     let b = c.if-b.false in
     let bl = signs_below k.b.lo.neg k.b.hi.neg b h.2 in
     let al = signs_apart k.a.lo.neg c.if-a-3.false b bl h.3 in
-    subst (Meets k.v k.a k.b) (sym c.met-else-a-3.ensures)
+    subst (Meets k.v k.a k.b) (sym c.met-2.ensures)
     (meets-comm (meets false true false h.1 h.0 (sign-of k.a.lo al) (sign-of k.b.lo bl) (sign-of k.b.hi b)))

@@ -11,7 +11,7 @@ returns-then-x c =
     let k = c.args in
     c.product.ensures ∙ met_by_sign (up (suc k.v)) not k.x k.b c.if-x.true
 
-pub returns-else-x : goal.returns-else-x
-returns-else-x c =
+pub returns : goal.returns
+returns c =
     let k = c.args in
-    c.product-else-x.ensures ∙ met_by_sign (up (suc k.v)) not k.x k.b c.if-x.false
+    c.product-2.ensures ∙ met_by_sign (up (suc k.v)) not k.x k.b c.if-x.false

@@ -1,6 +1,6 @@
 -- `series::exponential::total` meets its contract. The loop's invariant: the state is the rule's term and sum to k. Assumes nothing.
 use mathlib.Core.Path.{sym, ap, ◌∙◌}
-use Prim.Native.Nat.{suc, ◌+◌}
+use Prim.Native.Nat.{suc, ◌+◌, ◌≤◌}
 use native.Mathlib.Omega.{arith}
 use borrow.Author.Rules.{rules}
 use lib.Dec.{lit≤}
@@ -29,32 +29,36 @@ only_stretches-requires c =
 
 pub stretched-requires : goal.stretched-requires
 stretched-requires c =
+    let h : c.loop-k.k ≤ 256 = omega (arith, c.loop-k.auto.k-end) in
     let p = c.requires in
     let i = c.loop-k.invariant in
     let w = p.0.lo.width in
-    (sum_held w p.1 c.loop-k.auto.k-end i, omega (arith, pow_mono {i = 31} w.low))
+    (sum_held w p.1 h i, omega (arith, pow_mono {i = 31} w.low))
 
 pub returns-then-only_stretches : goal.returns-then-only_stretches
 returns-then-only_stretches c = c.stretched.ensures ∙ sym (c.only_stretches.ensures c.if-only_stretches.true)
 
 pub product-product-requires : goal.product-product-requires
 product-product-requires c =
+    let h : c.loop-k.k ≤ 256 = omega (arith, c.loop-k.auto.k-end) in
     let p = c.requires in
     let i = c.loop-k.invariant in
-    (term-held p.0.lo.width p.1 c.loop-k.auto.k-end i, p.0)
+    (term-held p.0.lo.width p.1 h i, p.0)
 
 pub share-term-requires : goal.share-term-requires
 share-term-requires c =
+    let h : c.loop-k.k ≤ 256 = omega (arith, c.loop-k.auto.k-end) in
     let p = c.requires in
     let i = c.loop-k.invariant in
-    (product_held p.0.lo.width p.1 c.loop-k.auto.k-end (ap (λ (s : Terms). s.term) i) c.product-product.ensures, omega arith, omega arith)
+    (product_held p.0.lo.width p.1 h (ap (λ (s : Terms). s.term) i) c.product-product.ensures, omega arith, omega arith)
 
 pub sum-sum-requires : goal.sum-sum-requires
 sum-sum-requires c =
+    let h : c.loop-k.k ≤ 256 = omega (arith, c.loop-k.auto.k-end) in
     let w = c.requires.0.lo.width in
     let l = c.loop-k in
     let e = term-next (suc c.args.v) (ends c.args.x) l.k (ap (λ (s : Terms). s.term) l.invariant) c.product-product.ensures c.share-term.ensures in
-    (sum_held w c.requires.1 l.auto.k-end l.invariant, held-as e (exp_term-held w c.requires.1 (l.k + 1) (omega arith)))
+    (sum_held w c.requires.1 h l.invariant, held-as e (exp_term-held w c.requires.1 (l.k + 1) (omega arith)))
 
 pub loop-k-preserved : goal.loop-k-preserved
 loop-k-preserved c =
@@ -68,15 +72,17 @@ loop-k-preserved c =
 
 pub add_last-requires : goal.add_last-requires
 add_last-requires c =
+    let h : c.loop-k.k ≤ 256 = omega (arith, c.loop-k.auto.k-end) in
     let f = c.requires.1 in
     let w = c.requires.0.lo.width in
     let i = c.loop-k.invariant in
-    let s = sum_held w f c.loop-k.auto.k-end i in
-    let t = term-held w f c.loop-k.auto.k-end i in
+    let s = sum_held w f h i in
+    let t = term-held w f h i in
     search rules
 
 pub returns : goal.returns
 returns c =
+    let h : c.loop-k.k ≤ 256 = omega (arith, c.loop-k.auto.k-end) in
     let X = ends c.args.x in
     let i = c.loop-k.invariant in
-    total-last (suc c.args.v) X c.loop-k.k c.loop-k.auto.k-end c.loop-k-test.false i c.add_last.ensures
+    total-last (suc c.args.v) X c.loop-k.k h c.loop-k-test.false i c.add_last.ensures
