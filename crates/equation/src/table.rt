@@ -1,17 +1,17 @@
 // The three sums over the terms of a table of either kind: one pass, from zero, left to right.
-ghost use Rattle.std.specs.Prelude.{◌≡◌, true, suc, ◌<◌, T};
+ghost use Rattle.std.specs.Prelude.{◌≡◌, suc, ◌<◌, T};
 ghost use Rattle.sheet.specs.Range.{Width};
 ghost use Rattle.kind.specs.Kind.{widest};
 ghost use Rattle.doubles.specs.Double.{exact_of};
 ghost use Rattle.doubles.specs.Range.{accepted_temperature, accepted_density};
 ghost use Rattle.term.specs.Packed.{term_at, count_terms};
-ghost use Rattle.term.specs.Sound.{sound_table};
 ghost use Rattle.equation.specs.Rules.{addends, plus_each, no_sums, sums};
 ghost use Rattle.equation.specs.Ranged.{DeltaIn, TauIn, AllHeld};
 
 use crate::addends::addends;
 use crate::{Sums, inputs};
 use bracket::Bracket;
+use term::SoundTable;
 
 pub fn no_sums(v: u64) -> Sums
     requires { Width v }
@@ -36,37 +36,24 @@ fn plus_each(v: u64, s: Sums, a: Sums) -> Sums
 }
 
 // The sums with the addends of the k-th term.
-fn add_term(
-    v: u64,
-    kind: u64,
-    table: &[u8],
-    k: usize,
-    delta: Bracket,
-    tau: Bracket,
-    s: Sums,
-) -> Sums
-    requires table_sound { (sound_table kind table.now ≡ true) × (k < count_terms kind table.now) }
+fn add_term(v: u64, table: SoundTable, k: usize, delta: Bracket, tau: Bracket, s: Sums) -> Sums
+    requires k_below { k < count_terms table.kind table.bytes.now }
     requires delta_in { DeltaIn v delta × TauIn v tau × AllHeld v s }
-    ensures { result ≡ plus_each (suc v) s (addends (suc v) (term_at kind table.now k) delta tau) }
+    ensures { result ≡ plus_each (suc v) s (addends (suc v) (term_at table.entry.kind table.entry.bytes.now k) delta tau) }
 {
-    let term = term::term_at(kind, table, k);
-    let a = addends(v, term, delta, tau);
+    let a = addends(v, table.at(k), delta, tau);
     plus_each(v, s, a)
 }
 
-pub fn sums_of(v: u64, kind: u64, table: &[u8], t: f64, rho: f64) -> Sums
-    requires table_sound { sound_table kind table.now ≡ true }
-    requires width { Width v × T (accepted_temperature widest t) × T (accepted_density widest rho) }
-    ensures { result ≡ sums (suc v) kind table.now (exact_of t) (exact_of rho) }
+pub fn sums_of(v: u64, table: SoundTable, t: f64, rho: f64) -> Sums
+    requires { Width v × T (accepted_temperature widest t) × T (accepted_density widest rho) }
+    ensures { result ≡ sums (suc v) table.entry.kind table.entry.bytes.now (exact_of t) (exact_of rho) }
 {
     let delta = inputs::delta(v, rho);
     let tau = inputs::tau(v, t);
-    let count = term::count_terms(kind, table);
     let mut s = no_sums(v);
-    let mut i: usize = 0;
-    while i < count {
-        s = add_term(v, kind, table, i, delta, tau, s);
-        i += 1;
+    for i in 0..table.count() {
+        s = add_term(v, table, i, delta, tau, s);
     }
     s
 }

@@ -75,11 +75,7 @@ pub fn quotient(v: u64, up: bool, a: Sheet, b: Sheet) -> Sheet
     let ae = a.e;
     let be = b.e;
     if am == 0 {
-        return Sheet {
-            neg: false,
-            m: 0,
-            e: 0,
-        };
+        return Sheet::ZERO;
     }
     let x = shared(v, am, b.m);
     let rest = x.rest;
@@ -94,11 +90,7 @@ pub fn share(v: u64, up: bool, a: Sheet, n: u64) -> Sheet
     let am = a.m;
     let ae = a.e;
     if am == 0 {
-        return Sheet {
-            neg: false,
-            m: 0,
-            e: 0,
-        };
+        return Sheet::ZERO;
     }
     let u = 63 - v;
     let x = parted(am << u, n);

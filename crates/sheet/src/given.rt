@@ -71,14 +71,9 @@ pub fn ratio(v: u64, neg: bool, num: u64, den: u64) -> Roundings
     ensures { (result.down ≡ round false (suc v) (parts neg num den)) × (result.up ≡ round true (suc v) (parts neg num den)) }
 {
     if num == 0 {
-        let zero = Sheet {
-            neg: false,
-            m: 0,
-            e: 0,
-        };
         return Roundings {
-            down: zero,
-            up: zero,
+            down: Sheet::ZERO,
+            up: Sheet::ZERO,
         };
     }
     let x = long_division(v, num, den, 262144);

@@ -19,10 +19,18 @@ pub use multiply::product;
 pub use order::{at_most, negated};
 pub use place::{Found, normalised, rounded};
 
-// ± m · 2^e in units of 2^-262144; zero is { false, 0, 0 }
+// ± m · 2^e in units of 2^-262144; zero is `Sheet::ZERO`
 #[derive(Clone, Copy)]
 pub struct Sheet {
     pub neg: bool,
     pub m: u64,
     pub e: u64,
+}
+
+impl Sheet {
+    pub const ZERO: Sheet = Sheet {
+        neg: false,
+        m: 0,
+        e: 0,
+    };
 }

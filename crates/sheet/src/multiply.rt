@@ -63,11 +63,7 @@ pub fn product(v: u64, up: bool, a: Sheet, b: Sheet) -> Sheet
     let ae = a.e;
     let be = b.e;
     if m == 0 {
-        return Sheet {
-            neg: false,
-            m: 0,
-            e: 0,
-        };
+        return Sheet::ZERO;
     }
     trimmed(v, up, a.neg != b.neg, m, x.sticky, ae + be + v - 262144)
 }

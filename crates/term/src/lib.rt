@@ -8,12 +8,14 @@ ghost use Rattle.term.specs.Packed.{term_at, spare_at, count_terms};
 ghost use Rattle.term.specs.Sound.{sound_at, first_broken, table_answer};
 
 pub mod bits;
+mod checked;
 mod long;
 mod packer;
 mod plain;
 pub mod reader;
 mod sound;
 
+pub use checked::SoundTable;
 pub use packer::{put_long, put_term};
 pub use plain::plain_factor;
 pub use sound::{sound_length, sound_term};
@@ -77,17 +79,19 @@ fn sound_at(kind: u64, table: &[u8], k: usize) -> bool
     sound_term(kind, term_at(kind, table, k)) && spare_at(kind, table, k) == 0
 }
 
-// The place of the first broken term, counted from 1.
+// The place of the first broken term, counted from 1: the loop over the terms yields it by break.
 fn first_broken(kind: u64, table: &[u8]) -> Option<usize>
     requires { length table.now ≤ 768 }
     ensures { MatchOption result (first_broken kind table.now ≡ 0) (λ place. (first_broken kind table.now ≡ place) × (0 < place)) }
 {
-    for k in 0..count_terms(kind, table) {
-        if !sound_at(kind, table, k) {
-            return Some(k + 1);
+    'terms: {
+        for k in 0..count_terms(kind, table) {
+            if !sound_at(kind, table, k) {
+                break 'terms Some(k + 1);
+            }
         }
+        None
     }
-    None
 }
 
 // The whole table: its length, then its terms. Answers their count.

@@ -16,7 +16,7 @@ returns-then-not-sound_at c =
     let here : c.loop-k.k < count_terms a.kind a.table.now = omega (arith, c.count_terms-k-end.ensures) in
     (first_place a.kind a.table.now c.loop-k.k (record { within = here; broken = sym c.sound_at.ensures ∙ c.if-not-sound_at.true; passed = c.loop-k.invariant }), omega arith)
 
-pub returns : goal.returns
-returns c =
+pub returns-after-loop-k : goal.returns-after-loop-k
+returns-after-loop-k c =
     let a = c.args in
     sound-place a.kind a.table.now (λ k h. c.loop-k.invariant k (omega (arith, c.count_terms-k-end.ensures)))

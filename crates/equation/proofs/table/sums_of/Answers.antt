@@ -14,66 +14,34 @@ use Rattle.equation.proofs.HoldsSums.{first_held}
 use Rattle.equation.proofs.Taken.{temperature_of, density-of}
 use Rattle.equation.proofs.table.sums_of.Goals as goal
 
-pub delta-delta-requires : goal.delta-delta-requires
-delta-delta-requires c = (c.requires.width.0, c.requires.width.2)
-
-pub tau-tau-requires : goal.tau-tau-requires
-tau-tau-requires c = (c.requires.width.0, c.requires.width.1)
-
-pub count_terms-count-requires : goal.count_terms-count-requires
-count_terms-count-requires c = tt
-
-pub no_sums-s-requires : goal.no_sums-s-requires
-no_sums-s-requires c = c.requires.width.0
-
 pub loop-i-init : goal.loop-i-init
-loop-i-init c = (
-  omega arith,
-  c.no_sums-s.ensures ∙ sums_first-none (suc c.args.v) (term_at c.args.kind c.args.table.now) c.delta-delta.result c.tau-tau.result,
-)
+loop-i-init c =
+    c.no_sums-s.ensures ∙ sums_first-none (suc c.args.v) (term_at c.args.table.kind c.args.table.bytes.now) c.delta-delta.result c.tau-tau.result
 
-pub add_term-s-requires : goal.add_term-s-requires
-add_term-s-requires c =
-    let count = c.count_terms-count.ensures in
-    let d = subst (DeltaIn c.args.v) (sym c.delta-delta.ensures) (delta-in c.requires.width.0 (density-of c.args.rho c.requires.width.2)) in
-    let t = subst (TauIn c.args.v) (sym c.tau-tau.ensures) (tau-in c.requires.width.0 (temperature_of c.args.t c.requires.width.1)) in
-    record {
-      table_sound = (c.requires.table_sound, let l = c.loop-i-test.true in omega arith);
-      delta_in = (d, t, subst (AllHeld c.args.v) (sym c.loop-i.invariant.1) (first_held c.args.kind c.args.table.now c.requires.table_sound _ _ d t c.loop-i.i c.loop-i.invariant.0));
-    }
-
-pub overflow_add-i : goal.overflow_add-i
-overflow_add-i c = omega arith
-
-pub loop-i-smaller : goal.loop-i-smaller
-loop-i-smaller c =
-    let count = c.count_terms-count.ensures in
-    let l = c.loop-i-test.true in
-    omega arith
+pub add_term-s-requires-clause-delta_in : goal.add_term-s-requires-clause-delta_in
+add_term-s-requires-clause-delta_in c =
+    let w = c.requires in
+    let d = subst (DeltaIn c.args.v) (sym c.delta-delta.ensures) (delta-in w.0 (density-of c.args.rho w.2)) in
+    let t = subst (TauIn c.args.v) (sym c.tau-tau.ensures) (tau-in w.0 (temperature_of c.args.t w.1)) in
+    let sums = first_held c.args.table.kind c.args.table.bytes.now c.args.table.sound _ _ d t c.loop-i.i (omega arith) in
+    (d, t, subst (AllHeld c.args.v) (sym c.loop-i.invariant) sums)
 
 pub loop-i-preserved : goal.loop-i-preserved
 loop-i-preserved c =
     let n = suc c.args.v in
-    let terms = term_at c.args.kind c.args.table.now in
+    let terms = term_at c.args.table.kind c.args.table.bytes.now in
     let d = c.delta-delta.result in
     let t = c.tau-tau.result in
     let i = c.loop-i.i in
-    let count = c.count_terms-count.ensures in
-    let l = c.loop-i-test.true in (
-      omega arith,
-      c.add_term-s.ensures ∙ ap (λ (x : Sums). plus_each n x (addends n (terms i) d t)) c.loop-i.invariant.1 ∙ sums_first-more n terms d t i,
-    )
+    c.add_term-s.ensures ∙ ap (λ (x : Sums). plus_each n x (addends n (terms i) d t)) c.loop-i.invariant ∙ sums_first-more n terms d t i
 
 pub returns : goal.returns
 returns c =
     let n = suc c.args.v in
-    let kind = c.args.kind in
-    let table = c.args.table.now in
-    let terms = term_at kind table in
-    let count = c.count_terms-count.ensures in
-    let l = c.loop-i-test.false in
+    let kind = c.args.table.kind in
+    let table = c.args.table.bytes.now in
     let i : c.loop-i.i ≡ count_terms kind table = omega arith in
-    c.loop-i.invariant.1
-    ∙ ap (λ (k : ℕ). sums_first n terms c.delta-delta.result c.tau-tau.result k) i
-    ∙ ap₂ (λ (x y : Bracket). sums_first n terms x y (count_terms kind table)) c.delta-delta.ensures c.tau-tau.ensures
+    c.loop-i.invariant
+    ∙ ap (λ (k : ℕ). sums_first n (term_at kind table) c.delta-delta.result c.tau-tau.result k) i
+    ∙ ap₂ (λ (x y : Bracket). sums_first n (term_at kind table) x y (count_terms kind table)) c.delta-delta.ensures c.tau-tau.ensures
     ∙ sums-is n kind table (exact_of c.args.t) (exact_of c.args.rho)
