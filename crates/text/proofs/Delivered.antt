@@ -2,22 +2,16 @@
 use Prim.Native.Nat.{ℕ, ◌≤◌}
 use native.Mathlib.Omega.{arith}
 use mathlib.Core.Path.{◌≡◌, refl, sym, ap, subst, ◌∙◌}
-use mathlib.Core.Bool.{true≢false}
 use mathlib.Core.List.{List}
 use lib.ListN.{length, take}
 use Rattle.lent.specs.Front.{Delivered}
 use Rattle.lent.proofs.Fronts.{front_kept, front-taken, front-passed_on}
-use Rattle.std.specs.Prelude.{Result, Ok, Err, Option, Some, None, is_some, IfSome, is_ok, MatchResult}
+use Rattle.std.specs.Prelude.{Result, Ok, Option, Some, None, is_some, IfSome}
 use Rattle.std.specs.Option.{ok_or}
 use Rattle.text.specs.declared.ReadFault.TheVariants.{NoRoom}
 use Rattle.text.specs.declared.WriteFault.TheVariants.{TooLong}
 use Rattle.text.specs.Reads.{Taken, Checks, ReadSays}
 use Rattle.text.specs.Writes.{Typed, SpellsOut, SoundTable, WriteSays}
-
--- a result that is `Ok` behind a `map_err` was so before it
-pub mapped : {T E D : Type 0} (P : E → Type 0) (r : Result T E) (s : Result T D) (x : T) → MatchResult r (λ y. s ≡ Ok y) P → is_ok s ≡ is_ok r → s ≡ Ok x → r ≡ Ok x
-mapped P (Ok y) s x same variant e = cc
-mapped P (Err y) s x same variant e = absurd (true≢false (sym (ap is_ok e) ∙ variant))
 
 -- what the rows' reader and the terms' speller promise where they come to an end
 pub told-bytes : {text before after : List ℕ} {checked : Result ℕ ℕ} {n : ℕ} → checked ≡ Ok n → Checks text before after checked → Taken text before n after

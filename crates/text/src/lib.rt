@@ -8,6 +8,7 @@ mod values;
 mod writing;
 
 pub use reading::read_text;
+pub use term::Fault;
 pub use values::{read_values, write_values};
 pub use writing::write_text;
 
@@ -22,7 +23,7 @@ pub enum ReadFault {
 // first term that has no spelling; or 18, no room.
 #[derive(Clone, Copy)]
 pub enum WriteFault {
-    Unsound(term::Fault),
+    Unsound(Fault),
     NoSpelling(usize),
     TooLong,
 }

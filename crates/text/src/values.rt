@@ -2,8 +2,7 @@
 ghost use Rattle.std.specs.Prelude.{◌≡◌};
 ghost use Rattle.text.specs.Values.{read_values, write_values};
 
-use super::{ReadFault, WriteFault};
-use term::Fault;
+use super::{Fault, ReadFault, WriteFault};
 
 #[tactic(auto, unfolding(crate::specs::Values::read_values))]
 pub fn read_values(answer: Result<usize, ReadFault>) -> [u64; 3]
