@@ -15,8 +15,8 @@ use bracket::Bracket;
 use equation::Sums;
 use verdict::Setting;
 
-// The sums with a row's addends, by its power of delta and what is kept for it. All is done here, and nothing is handed on whole: so the sums
-// of the pass stay scalars.
+// The sums with a row's addends, by its power of delta and what is kept for it.
+// Stays: not by the equation's `plus_each`: all is done here and nothing is handed on whole, so the sums of the pass stay scalars.
 fn add_row(
     v: u64,
     row: Row,
@@ -38,7 +38,8 @@ fn add_row(
     Sums { s0, s1, s2 }
 }
 
-// What the terms share is kept at the first place that has it, each kind in an array of its own: so a product reads it where it lies.
+// What the terms share is kept at the first place that has it.
+// Stays: four arrays and not one of `Kept`: a product reads a bracket where it lies, and not out of a whole copied from its place.
 pub fn sums_of(setting: Setting, ready: Ready, rho: f64) -> Sums
     requires ready_for { ReadyFor (suc setting.v) setting.table.kind setting.table.bytes.now ready }
     requires accepted { T (accepted_temperature widest ready.t) × T (accepted_density widest rho) }

@@ -35,6 +35,7 @@ pub struct Reach {
 }
 
 // The rows at a temperature, and the highest power of delta that they need.
+// Stays: 64 places each, here and where terms, keys and powers are listed, since the library has no heap.
 #[derive(Clone, Copy)]
 pub struct Ready {
     pub t: f64,
