@@ -20,6 +20,7 @@ pub fn value(v: u64, coefficient: Bracket, delta: Bracket, tau: Bracket, e: Brac
     bracket::product(v, by_tau, e)
 }
 
+// Stays: `Bounds term` in contracts, and no invariant of `Term`, since a slice that C lends may hold any terms.
 fn term_v(v: u64, term: Term, x: Reduced, e: Bracket) -> Bracket
     requires { Bounds term × ReducedIn v x × EIn v e }
     ensures { result ≡ term_v (suc v) term x.delta x.tau e }
@@ -31,6 +32,7 @@ fn term_v(v: u64, term: Term, x: Reduced, e: Bracket) -> Bracket
 }
 
 // For c = 0 it is d.
+// Stays: c, d and factor one by one here and in `scale`, `factor_e` and `factor_s2`: no two take the same of a term, and none its coefficient.
 pub fn term_w(v: u64, d: u64, c: u64, g: Bracket) -> Bracket
     requires { ((0 < d) × (d ≤ 31)) × ((c ≤ 15) × GIn v g) }
     ensures { result ≡ term_w (suc v) d c g }

@@ -51,6 +51,7 @@ fn within(v: u64, g: Bracket) -> bool
 }
 
 // What the exponential is taken of: all of g, or the clip's point.
+#[tactic(auto, unfolding(crate::specs::Clip::exponent_of))]
 fn exponent(v: u64, g: Bracket, all: bool) -> Bracket
     requires { GIn v g }
     ensures { result ≡ exponent_of (suc v) all g }
@@ -63,6 +64,7 @@ fn exponent(v: u64, g: Bracket, all: bool) -> Bracket
 }
 
 // A clipped E starts at zero.
+#[tactic(auto, unfolding(crate::specs::Clip::started_at))]
 fn started(e: Bracket, all: bool) -> Bracket
     ensures { result ≡ started_at all e }
 {

@@ -20,6 +20,7 @@ pub fn delta(v: u64, rho: f64) -> Bracket
     bracket::quotient(v, density, critical)
 }
 
+// Stays: not one function with `delta`, which divides by a whole number what the input gives; here the input's bracket is the divisor.
 pub fn tau(v: u64, t: f64) -> Bracket
     requires { Width v × T (accepted_temperature widest t) }
     ensures { result ≡ tau (suc v) (exact_of t) }
@@ -30,6 +31,7 @@ pub fn tau(v: u64, t: f64) -> Bracket
 }
 
 // In units of ten to the minus 16.
+#[tactic(auto, unfolding(crate::specs::Rules::coefficient))]
 pub fn coefficient(v: u64, term: Term) -> Bracket
     requires { Width v }
     ensures { result ≡ coefficient (suc v) term }

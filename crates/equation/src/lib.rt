@@ -1,5 +1,6 @@
 // The equation by the step rules of documents 01 and 02 (h) at 32 or 53 bits: the three sums over a table's terms in one pass, and pressure, stiffness,
 // Gibbs gap and the gaps of pressure by them. Every function's contract is the rule itself. Nothing here writes to the lent bytes.
+// Stays: `Width v`, `GIn v g`, `SumsIn v s` and their like in contracts: no invariant of `Bracket` or `Sums` can name v, which C gives at run time.
 #![tactic(auto)]
 
 use bracket::Bracket;

@@ -60,6 +60,7 @@ pub fn pressure_of(v: u64, t: f64, rho: f64, s: Sums) -> Bracket
     bracket::product(v, heat, pressure_factor(v, s))
 }
 
+// Stays: not one function with `pressure_of`, for the two share no more than their last product.
 pub fn stiffness_of(v: u64, t: f64, s: Sums) -> Bracket
     requires { T (accepted_temperature widest t) × SumsIn v s }
     ensures { result ≡ stiffness_of (suc v) (exact_of t) s }

@@ -13,6 +13,7 @@ use crate::{Reduced, Sums, inputs};
 use bracket::Bracket;
 use term::SoundTable;
 
+#[tactic(auto, unfolding(crate::specs::Rules::no_sums))]
 pub fn no_sums(v: u64) -> Sums
     requires { Width v }
     ensures { result ≡ no_sums (suc v) }
@@ -25,6 +26,7 @@ pub fn no_sums(v: u64) -> Sums
     }
 }
 
+#[tactic(auto, unfolding(crate::specs::Rules::plus_each))]
 fn plus_each(v: u64, s: Sums, a: Sums) -> Sums
     requires { AllHeld v s × AllHeld v a }
     ensures { result ≡ plus_each (suc v) s a }

@@ -1,23 +1,24 @@
 -- How many terms are laid, and when: what the code asks before it reads and lays them, and what is replied by their count. Assumes nothing.
-use mathlib.Core.Path.{◌≡◌, refl, sym, subst, ◌∙◌}
+use Rattle.std.specs.Prelude.{Some, Err}
+use mathlib.Core.Path.{◌≡◌, refl, ap, ◌∙◌}
 use mathlib.Core.Bool.{Bool, true, false, cond, ◌&&◌}
 use mathlib.Core.List.{List}
-use Prim.Native.Nat.{ℕ, zero, suc, ◌*◌, ◌≤◌, ◌<◌, zero-le}
+use Prim.Native.Nat.{ℕ, ◌≤◌, ◌<◌, zero-le}
 use native.Mathlib.Omega.{arith}
-use lib.Dec.{leb}
-use lib.ListN.{length}
-use borrow.Author.Tests.{leb-true, le-ltb, lt-ltb, le-leb, lt-leb, ne_eqb}
-use Rattle.kind.specs.Kind.{sound_kind, term_bytes}
+use borrow.Author.Tests.{le-ltb, lt-ltb, le-leb, lt-leb}
 use Rattle.term.specs.Packed.{count_terms}
-use Rattle.term.specs.Sound.{sound_length, first_broken, sound_table}
+use Rattle.term.specs.Sound.{sound_table}
 use Rattle.term.proofs.Answers.{sound-few, sound-whole}
 use Rattle.term.proofs.Rules.{whole_widest}
-use Rattle.verdict.specs.Rules.{sound_width}
+use Rattle.verdict.specs.declared.Refusal.{Refusal}
+use Rattle.verdict.specs.Rules.{first_refusal, rejected, state_answer, density_answer, pair_answer}
+use Rattle.verdict.proofs.Tables.{none-refuses, on_refusal}
 use Rattle.verdict.proofs.Tests.{both, together}
 use Rattle.quick.specs.declared.Question.{Question}
-use Rattle.quick.specs.declared.Reply.TheVariants.{Short}
+use Rattle.quick.specs.declared.Question.TheVariants as question
+use Rattle.quick.specs.declared.Reply.TheVariants.{Short, Sheet, Check}
 use Rattle.quick.specs.Unpacked.{Readable}
-use Rattle.quick.specs.Lent.{Sound, sound_input, sound_count, laid, plain_reply, reply_of}
+use Rattle.quick.specs.Lent.{Sound, sound_input, sound_count, laid, plain_reply, refused_reply, reply_of}
 
 and-false : (b : Bool) → (b && false) ≡ false
 and-false true = refl
@@ -34,16 +35,6 @@ module _ (w kind : ℕ) (table : List ℕ) where
       let p = both _ _ h in
       let q = both _ _ p.0 in
       record { width_sound = q.0; kind_sound = q.1; table_sound = p.1 }
-
-  pub unsound_length : sound_length kind (length table) ≡ false → sound_input w kind table ≡ false
-  unfolding sound_input sound_table
-  unsound_length h = rw h (and-false (sound_width w && sound_kind kind))
-
-  pub unsound_broken : (k : ℕ) → first_broken kind table ≡ k → 0 < k → sound_input w kind table ≡ false
-  unfolding sound_input sound_table
-  unsound_broken k e l =
-      let other : first_broken kind table ≡ 0 → ⊥ = λ z. omega (arith, e, l) in
-      rw (ne_eqb _ _ other, and-false (sound_length kind (length table))) (and-false (sound_width w && sound_kind kind))
 
   -- the count, by whether these pass
   pub count_sound : Sound w kind table → count_terms kind table ≡ sound_count w kind table
@@ -71,6 +62,29 @@ module _ (w kind : ℕ) (table : List ℕ) where
       go true e = sound-few kind table (sound-parts e).table_sound
       go false e = zero-le
 
+  -- all of a sound table's terms may be read
+  pub readable : sound_table kind table ≡ true → Readable kind table (count_terms kind table)
+  readable s =
+      let whole = sound-whole kind table s in
+      record { inside = omega (arith, whole.whole); few = sound-few kind table s; short = λ l. whole_widest whole }
+
+  -- ---- a refusal before anything of the question is asked
+  pub refused-input : (why : Refusal) → first_refusal w kind table ≡ Some why → sound_input w kind table ≡ false
+  refused-input why e = go (sound_input w kind table) refl
+    where
+      go : (b : Bool) → sound_input w kind table ≡ b → b ≡ false
+      go false _ = refl
+      go true h =
+          let p = sound-parts h in
+          let none = none-refuses w kind table p.width_sound p.kind_sound p.table_sound in
+          cc
+
+  pub refused-plain : (why : Refusal) (q : Question) → first_refusal w kind table ≡ Some why → refused_reply why q ≡ plain_reply w kind table q
+  unfolding refused_reply plain_reply state_answer density_answer pair_answer
+  refused-plain why (question.Sheet state) e = ap Sheet (on_refusal Err w kind table _ _ why e)
+  refused-plain why (question.Density state target tolerance) e = ap Check (on_refusal rejected w kind table _ _ why e)
+  refused-plain why (question.Pair state vapour pressure_tolerance gibbs_tolerance) e = ap Check (on_refusal rejected w kind table _ _ why e)
+
   -- ---- by the slice's length
   module _ (room : ℕ) where
     pub laid-all : sound_count w kind table ≤ room → sound_count w kind table ≡ laid w kind table room
@@ -81,47 +95,6 @@ module _ (w kind : ℕ) (table : List ℕ) where
     unfolding laid
     laid_none h = rw (lt-leb _ _ h)
 
-    laid-either : (P : ℕ → Type 0) → (sound_count w kind table ≤ room → P (sound_count w kind table)) → P 0 → P (laid w kind table room)
-    unfolding laid
-    laid-either P all none = go (leb (sound_count w kind table) room) refl
-      where
-        go : (b : Bool) → leb (sound_count w kind table) room ≡ b → P (cond b (sound_count w kind table) 0)
-        go true e = all (leb-true _ _ e)
-        go false e = none
-
-    pub laid-inside : laid w kind table room ≤ room
-    laid-inside = laid-either (λ n. n ≤ room) (λ h. h) zero-le
-
-    pub laid-few : laid w kind table room ≤ 64
-    laid-few = laid-either (λ n. n ≤ 64) (λ h. count_few) zero-le
-
-    -- what was laid was all
-    pub laid-some : 0 < laid w kind table room → Sound w kind table × (laid w kind table room ≡ count_terms kind table) × (sound_count w kind table ≤ room)
-    laid-some =
-        laid-either (λ n. 0 < n → Sound w kind table × (n ≡ count_terms kind table) × (sound_count w kind table ≤ room))
-        (λ h l. let s = sound-of l in (s.0, s.1, h))
-        (λ l. absurd (omega arith))
-
-    pub laid-readable : Readable kind table (laid w kind table room)
-    laid-readable =
-        laid-either (Readable kind table) (λ h. all (sound_count w kind table) refl)
-        (record { inside = none; few = zero-le; short = λ l. absurd (omega arith) })
-      where
-        none : term_bytes kind * 0 ≤ length table
-        none = omega arith
-
-        all : (n : ℕ) → sound_count w kind table ≡ n → Readable kind table n
-        all zero e = record { inside = none; few = zero-le; short = λ l. absurd (omega arith) }
-        all (suc n) e =
-            let s = sound-of (omega arith) in
-            let whole = sound-whole kind table s.0.table_sound in
-            let is : suc n ≡ count_terms kind table = sym e ∙ s.1 in
-            record {
-              inside = subst (λ (m : ℕ). term_bytes kind * m ≤ length table) (sym is) (omega (arith, whole.whole));
-              few = subst (λ (m : ℕ). m ≤ 64) e count_few;
-              short = λ l. whole_widest whole;
-            }
-
     -- ---- the reply
     pub reply_short : (q : Question) → room < sound_count w kind table → Short ≡ reply_of w kind table room q
     unfolding reply_of
@@ -130,3 +103,6 @@ module _ (w kind : ℕ) (table : List ℕ) where
     pub reply_plain : (q : Question) → sound_count w kind table ≤ room → plain_reply w kind table q ≡ reply_of w kind table room q
     unfolding reply_of
     reply_plain q h = rw (le-ltb _ _ h)
+
+    pub refused-reply : (why : Refusal) (q : Question) → first_refusal w kind table ≡ Some why → refused_reply why q ≡ reply_of w kind table room q
+    refused-reply why q e = refused-plain why q e ∙ reply_plain q (omega (arith, count_none (refused-input why e)))

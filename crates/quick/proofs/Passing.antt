@@ -1,5 +1,5 @@
 -- Where the checks before the work pass, an answer is what the checks on the brackets say. Assumes nothing.
-use Rattle.std.specs.Prelude.{Ok, Err}
+use Rattle.std.specs.Prelude.{Ok}
 use mathlib.Core.Path.{◌≡◌, sym, ◌∙◌}
 use mathlib.Core.Bool.{true, ◌&&◌}
 use mathlib.Core.List.{List}
@@ -9,50 +9,31 @@ use Rattle.doubles.specs.Double.{exact_of}
 use Rattle.doubles.specs.Range.{accepted_temperature, accepted_pair_temperature, accepted_density, accepted_target, accepted_tolerance}
 use Rattle.equation.specs.Rules.{pressure, stiffness, target_gap}
 use Rattle.verdict.specs.Steps.{first_failing}
-use Rattle.verdict.specs.Rules.{handed_out, on_sides, state_worked, state_accepted, state_answer, density_worked, density_answer, pair_rest, pair_answer, rejected}
+use Rattle.verdict.specs.Rules.{handed_out, on_sides, state_inputs, state_worked, state_accepted, density_inputs, density_worked, pair_inputs, pair_rest}
 use Rattle.verdict.proofs.Order.{on_pass}
-use Rattle.verdict.proofs.Tables.{on_sound}
 use Rattle.verdict.proofs.Tests.{both, together}
-use Rattle.quick.specs.Lent.{Sound}
 
-module _ (w kind : ℕ) (table : List ℕ) (s : Sound w kind table) where
+module _ (w kind : ℕ) (table : List ℕ) where
   pub state_passed : (t rho : Float) → accepted_temperature kind t ≡ true → accepted_density kind rho ≡ true
-      → first_failing (state_worked kind (pressure w kind table (exact_of t) (exact_of rho))) (state_accepted w kind table t rho) ≡ state_answer w kind table t rho
-  unfolding state_answer
-  state_passed t rho hot dense =
-      sym
-      (on_pass _ _ _ s.width_sound
-      ∙ on_pass _ _ _ s.kind_sound
-      ∙ on_sound Err kind table _ _ s.table_sound
-      ∙ on_pass _ _ _ hot
-      ∙ on_pass _ _ _ dense)
+      → first_failing (state_worked kind (pressure w kind table (exact_of t) (exact_of rho))) (state_accepted w kind table t rho)
+      ≡ first_failing (state_inputs w kind table t rho) (state_accepted w kind table t rho)
+  state_passed t rho hot dense = sym (on_pass _ _ _ hot ∙ on_pass _ _ _ dense)
 
   pub density_passed : (t rho target tolerance : Float) → accepted_temperature kind t ≡ true → accepted_density kind rho ≡ true → accepted_target kind target ≡ true → accepted_tolerance tolerance ≡ true
       → first_failing
       (density_worked kind (pressure w kind table (exact_of t) (exact_of rho)) (target_gap w kind table (exact_of t) (exact_of rho) (exact_of target)) (stiffness w kind table (exact_of t) (exact_of rho)) tolerance)
-      (Ok (handed_out (pressure w kind table (exact_of t) (exact_of rho)))) ≡ density_answer w kind table t rho target tolerance
-  unfolding density_answer
+      (Ok (handed_out (pressure w kind table (exact_of t) (exact_of rho))))
+      ≡ first_failing (density_inputs w kind table t rho target tolerance) (Ok (handed_out (pressure w kind table (exact_of t) (exact_of rho))))
   density_passed t rho target tolerance hot dense aim near =
-      sym
-      (on_pass _ _ _ s.width_sound
-      ∙ on_pass _ _ _ s.kind_sound
-      ∙ on_sound rejected kind table _ _ s.table_sound
-      ∙ on_pass _ _ _ hot
-      ∙ on_pass _ _ _ dense
-      ∙ on_pass _ _ _ aim
-      ∙ on_pass _ _ _ near)
+      sym (on_pass _ _ _ hot ∙ on_pass _ _ _ dense ∙ on_pass _ _ _ aim ∙ on_pass _ _ _ near)
 
   pub pair-passed : (t liquid vapour pressure_tolerance gibbs_tolerance : Float) → accepted_pair_temperature t ≡ true → accepted_density kind liquid ≡ true → accepted_density kind vapour ≡ true
       → accepted_tolerance pressure_tolerance ≡ true → accepted_tolerance gibbs_tolerance ≡ true → on_sides liquid vapour ≡ true
       → first_failing (pair_rest w kind table t liquid vapour pressure_tolerance gibbs_tolerance) (Ok (handed_out (pressure w kind table (exact_of t) (exact_of vapour))))
-      ≡ pair_answer w kind table t liquid vapour pressure_tolerance gibbs_tolerance
-  unfolding pair_answer
+      ≡ first_failing (pair_inputs w kind table t liquid vapour pressure_tolerance gibbs_tolerance) (Ok (handed_out (pressure w kind table (exact_of t) (exact_of vapour))))
   pair-passed t liquid vapour pressure_tolerance gibbs_tolerance hot dense thin near close apart =
       sym
-      (on_pass _ _ _ s.width_sound
-      ∙ on_pass _ _ _ s.kind_sound
-      ∙ on_sound rejected kind table _ _ s.table_sound
-      ∙ on_pass _ _ _ hot
+      (on_pass _ _ _ hot
       ∙ on_pass _ _ _ (together _ _ dense thin)
       ∙ on_pass _ _ _ (together _ _ near close)
       ∙ on_pass _ _ _ apart)

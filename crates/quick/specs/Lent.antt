@@ -1,11 +1,12 @@
 -- Document 02, e: which terms a call lays into the lent slice, and what it replies. w is the width, kind the kind of table, room the count of
 -- terms that the slice holds. Assumes nothing.
-use Rattle.std.specs.Prelude.{ℕ, ◌≡◌, Bool, true, cond, ◌&&◌, List, ◌++◌, length, drop, leb, ltb}
+use Rattle.std.specs.Prelude.{ℕ, ◌≡◌, Bool, true, cond, ◌&&◌, List, ◌++◌, length, drop, leb, ltb, Err}
 use Rattle.kind.specs.Kind.{sound_kind}
 use Rattle.term.specs.declared.Term.{Term}
 use Rattle.term.specs.Packed.{count_terms, terms_from}
 use Rattle.term.specs.Sound.{sound_table}
-use Rattle.verdict.specs.Rules.{sound_width, state_answer, density_answer, pair_answer}
+use Rattle.verdict.specs.declared.Refusal.{Refusal}
+use Rattle.verdict.specs.Rules.{sound_width, state_answer, density_answer, pair_answer, rejected}
 use Rattle.quick.specs.declared.Question.{Question}
 use Rattle.quick.specs.declared.Question.TheVariants as question
 use Rattle.quick.specs.declared.Reply.{Reply}
@@ -40,6 +41,12 @@ plain_reply w kind table (question.Sheet state) = Sheet (state_answer w kind tab
 plain_reply w kind table (question.Density state target tolerance) = Check (density_answer w kind table state.temperature state.density target tolerance)
 plain_reply w kind table (question.Pair state vapour pressure_tolerance gibbs_tolerance) =
     Check (pair_answer w kind table state.temperature state.density vapour pressure_tolerance gibbs_tolerance)
+
+-- a refusal before anything of the question is asked
+unfoldable pub refused_reply : Refusal → Question → Reply
+refused_reply why (question.Sheet state) = Sheet (Err why)
+refused_reply why (question.Density state target tolerance) = Check (rejected why)
+refused_reply why (question.Pair state vapour pressure_tolerance gibbs_tolerance) = Check (rejected why)
 
 -- 20 where the slice holds fewer terms than the table, behind 19, 29, 1 and 2; else the plain engine's answer
 unfoldable pub reply_of : (w kind : ℕ) → List ℕ → (room : ℕ) → Question → Reply

@@ -1,81 +1,65 @@
-// The three answers by the quick pass, where width, kind and table are sound. Inputs that 3 to 7 refuse go to the plain engine, which refuses
-// them before it works anything out.
+// The three answers by the quick pass, at a width and a sound table. Inputs that 3 to 7 refuse go to the plain engine, which refuses them before
+// it works anything out.
 ghost use Rattle.std.specs.Prelude.{◌≡◌, Ok, ◌&&◌, suc, T};
 ghost use Rattle.doubles.specs.Double.{exact_of};
 ghost use Rattle.doubles.specs.Range.{accepted_temperature, accepted_pair_temperature, accepted_density, accepted_target, accepted_tolerance};
 ghost use Rattle.equation.specs.Rules.{pressure, stiffness, target_gap};
 ghost use Rattle.verdict.specs.Reading.{AnswerNumbers, SheetNumbers};
 ghost use Rattle.verdict.specs.Steps.{first_failing};
-ghost use Rattle.verdict.specs.Rules.{handed_out, on_sides, state_worked, state_accepted, density_worked, pair_rest};
-ghost use Rattle.verdict.specs.Statement.{StateStated, DensityStated, PairStated};
+ghost use Rattle.verdict.specs.Rules.{handed_out, on_sides, state_inputs, state_accepted, density_inputs, density_worked, pair_inputs, pair_rest};
 ghost use Rattle.verdict.specs.Handed.{Workable, WorkablePair};
 ghost use Rattle.verdict.specs.Worked.{phase_of};
 ghost use Rattle.quick.specs.Ready.{ReadyFor};
 ghost use Rattle.quick.specs.Unpacked.{Holds};
-ghost use Rattle.quick.specs.Lent.{Sound};
 
 use crate::pass::sums_of;
 use crate::ready::{Ready, made_ready};
+use doubles::range;
 use term::Term;
 use verdict::phases::Phase;
-use verdict::{Ends, Refusal, Rejection, State, StateSheet};
+use verdict::{Ends, Refusal, Rejection, Setting, State, StateSheet, densities, pairs, sheets};
 
 // Whether 3 and 4 pass.
-fn sheet_passes(kind: u64, t: f64, rho: f64) -> bool
-    ensures { result ≡ (accepted_temperature kind t && accepted_density kind rho) }
+fn sheet_passes(kind: u64, state: State) -> bool
+    ensures { result ≡ (accepted_temperature kind state.temperature && accepted_density kind state.density) }
 {
-    if doubles::range::accepts_temperature(kind, t) {
-        doubles::range::accepts_density(kind, rho)
-    } else {
-        false
-    }
+    range::accepts_temperature(kind, state.temperature)
+        && range::accepts_density(kind, state.density)
 }
 
 // Whether 3 to 6 pass.
-fn density_passes(kind: u64, t: f64, rho: f64, target: f64, tolerance: f64) -> bool
-    ensures { result ≡ ((accepted_temperature kind t && accepted_density kind rho) && (accepted_target kind target && accepted_tolerance tolerance)) }
+fn density_passes(kind: u64, state: State, target: f64, tolerance: f64) -> bool
+    ensures { result ≡ ((accepted_temperature kind state.temperature && accepted_density kind state.density) && (accepted_target kind target && accepted_tolerance tolerance)) }
 {
-    if !sheet_passes(kind, t, rho) {
-        return false;
-    }
-    if doubles::range::accepts_target(kind, target) {
-        doubles::range::accepts_tolerance(tolerance)
-    } else {
-        false
-    }
+    sheet_passes(kind, state)
+        && (range::accepts_target(kind, target) && range::accepts_tolerance(tolerance))
 }
 
 // Whether 3, 4, 6 and 7 pass.
 fn pair_passes(
     kind: u64,
-    t: f64,
-    liquid: f64,
+    liquid: State,
     vapour: f64,
     pressure_tolerance: f64,
     gibbs_tolerance: f64,
 ) -> bool
-    ensures { result ≡ ((accepted_pair_temperature t && (accepted_density kind liquid && accepted_density kind vapour)) && ((accepted_tolerance pressure_tolerance && accepted_tolerance gibbs_tolerance) && on_sides liquid vapour)) }
+    ensures { result ≡ ((accepted_pair_temperature liquid.temperature && (accepted_density kind liquid.density && accepted_density kind vapour)) && ((accepted_tolerance pressure_tolerance && accepted_tolerance gibbs_tolerance) && on_sides liquid.density vapour)) }
 {
-    if !doubles::range::accepts_pair_temperature(t) {
-        return false;
-    }
-    if !verdict::pairs::accepts_densities(kind, liquid, vapour) {
-        return false;
-    }
-    if verdict::pairs::accepts_tolerances(pressure_tolerance, gibbs_tolerance) {
-        verdict::pairs::on_sides(liquid, vapour)
-    } else {
-        false
-    }
+    range::accepts_pair_temperature(liquid.temperature)
+        && pairs::accepts_densities(kind, liquid.density, vapour)
+        && (pairs::accepts_tolerances(pressure_tolerance, gibbs_tolerance)
+            && pairs::on_sides(liquid.density, vapour))
 }
 
 // One phase by the rows that are ready.
-fn phase(v: u64, kind: u64, table: &[u8], ready: Ready, t: f64, rho: f64) -> Phase
-    requires { Workable v kind table.now t rho × (ReadyFor (suc v) kind table.now ready × (ready.t ≡ t)) }
-    ensures { result ≡ phase_of (suc v) kind table.now (exact_of t) (exact_of rho) }
+fn phase(setting: Setting, ready: Ready, state: State) -> Phase
+    requires { Workable setting.table.kind state × (ReadyFor (suc setting.v) setting.table.kind setting.table.bytes.now ready × (ready.t ≡ state.temperature)) }
+    ensures { result ≡ phase_of (suc setting.entry.v) setting.entry.table.kind setting.entry.table.bytes.now (exact_of state.temperature) (exact_of state.density) }
 {
-    let sums = sums_of(v, kind, table, ready, rho);
-    let pressure = equation::pressure_of(v, t, rho, sums);
+    let v = setting.v;
+    let t = state.temperature;
+    let sums = sums_of(setting, ready, state.density);
+    let pressure = equation::pressure_of(v, t, state.density, sums);
     let stiffness = equation::stiffness_of(v, t, sums);
     Phase {
         sums,
@@ -85,57 +69,60 @@ fn phase(v: u64, kind: u64, table: &[u8], ready: Ready, t: f64, rho: f64) -> Pha
 }
 
 // One phase by the table's terms.
-fn phase_of(v: u64, kind: u64, table: &[u8], list: [Term; 64], t: f64, rho: f64) -> Phase
-    requires { Workable v kind table.now t rho × Holds kind table.now list }
-    ensures { result ≡ phase_of (suc v) kind table.now (exact_of t) (exact_of rho) }
+fn phase_of(setting: Setting, list: [Term; 64], state: State) -> Phase
+    requires { Workable setting.table.kind state × Holds setting.table.kind setting.table.bytes.now list }
+    ensures { result ≡ phase_of (suc setting.entry.v) setting.entry.table.kind setting.entry.table.bytes.now (exact_of state.temperature) (exact_of state.density) }
 {
-    let ready = made_ready(v, kind, table, list, t);
-    phase(v, kind, table, ready, t, rho)
+    let ready = made_ready(setting, list, state.temperature);
+    phase(setting, ready, state)
 }
 
 // 8, 9 and 11 of the density check.
 fn density_worked(
-    v: u64,
-    kind: u64,
-    table: &[u8],
+    setting: Setting,
     list: [Term; 64],
-    t: f64,
-    rho: f64,
+    state: State,
     target: f64,
     tolerance: f64,
 ) -> Result<Ends, Rejection>
-    requires { (Workable v kind table.now t rho × Holds kind table.now list) × (T (accepted_target kind target) × T (accepted_tolerance tolerance)) }
-    ensures value { result ≡ first_failing (density_worked kind (pressure (suc v) kind table.now (exact_of t) (exact_of rho)) (target_gap (suc v) kind table.now (exact_of t) (exact_of rho) (exact_of target)) (stiffness (suc v) kind table.now (exact_of t) (exact_of rho)) tolerance) (Ok (handed_out (pressure (suc v) kind table.now (exact_of t) (exact_of rho)))) }
+    requires { (Workable setting.table.kind state × Holds setting.table.kind setting.table.bytes.now list) × (T (accepted_target setting.table.kind target) × T (accepted_tolerance tolerance)) }
+    ensures value { let w = suc setting.entry.v in let kind = setting.entry.table.kind in let table = setting.entry.table.bytes.now in let t = exact_of state.temperature in let rho = exact_of state.density in result ≡ first_failing (density_worked kind (pressure w kind table t rho) (target_gap w kind table t rho (exact_of target)) (stiffness w kind table t rho) tolerance) (Ok (handed_out (pressure w kind table t rho))) }
     ensures answer_numbers { AnswerNumbers result }
 {
-    let a = phase_of(v, kind, table, list, t, rho);
-    let gap = equation::target_gap_of(v, a.pressure, target);
-    verdict::densities::worked(kind, a.pressure, gap, a.stiffness, tolerance)
+    let a = phase_of(setting, list, state);
+    let gap = equation::target_gap_of(setting.v, a.pressure, target);
+    densities::worked(setting.table.kind, a.pressure, gap, a.stiffness, tolerance)
 }
 
 // 8 to 11 of the pair check: both phases by rows that are made ready once.
 fn pair_worked(
-    v: u64,
-    kind: u64,
-    table: &[u8],
+    setting: Setting,
     list: [Term; 64],
-    t: f64,
-    liquid: f64,
+    liquid: State,
     vapour: f64,
     pressure_tolerance: f64,
     gibbs_tolerance: f64,
 ) -> Result<Ends, Rejection>
-    requires { WorkablePair v kind table.now t liquid vapour pressure_tolerance gibbs_tolerance × Holds kind table.now list }
-    ensures value { result ≡ first_failing (pair_rest (suc v) kind table.now t liquid vapour pressure_tolerance gibbs_tolerance) (Ok (handed_out (pressure (suc v) kind table.now (exact_of t) (exact_of vapour)))) }
+    requires { WorkablePair setting.table.kind liquid vapour pressure_tolerance gibbs_tolerance × Holds setting.table.kind setting.table.bytes.now list }
+    ensures value { let w = suc setting.entry.v in let kind = setting.entry.table.kind in let table = setting.entry.table.bytes.now in result ≡ first_failing (pair_rest w kind table liquid.temperature liquid.density vapour pressure_tolerance gibbs_tolerance) (Ok (handed_out (pressure w kind table (exact_of liquid.temperature) (exact_of vapour)))) }
     ensures answer_numbers { AnswerNumbers result }
 {
-    let ready = made_ready(v, kind, table, list, t);
-    let l = phase(v, kind, table, ready, t, liquid);
-    let g = phase(v, kind, table, ready, t, vapour);
+    let v = setting.v;
+    let t = liquid.temperature;
+    let ready = made_ready(setting, list, t);
+    let l = phase(setting, ready, liquid);
+    let g = phase(
+        setting,
+        ready,
+        State {
+            temperature: t,
+            density: vapour,
+        },
+    );
     let gap = equation::pressure_gap_of(v, l.pressure, g.pressure);
-    let gibbs = equation::gibbs_gap_of(v, t, liquid, vapour, l.sums, g.sums);
-    verdict::pairs::judged(
-        kind,
+    let gibbs = equation::gibbs_gap_of(v, t, liquid.density, vapour, l.sums, g.sums);
+    pairs::judged(
+        setting.table.kind,
         l.pressure,
         g.pressure,
         gap,
@@ -147,78 +134,61 @@ fn pair_worked(
     )
 }
 
-pub fn state_sheet(
-    width: u64,
-    kind: u64,
-    table: &[u8],
-    list: [Term; 64],
-    state: State,
-) -> Result<StateSheet, Refusal>
-    requires { Sound width kind table.now × Holds kind table.now list }
-    ensures { StateStated width kind table.now state.temperature state.density result × SheetNumbers result }
+pub fn state_sheet(setting: Setting, list: [Term; 64], state: State) -> Result<StateSheet, Refusal>
+    requires { Holds setting.table.kind setting.table.bytes.now list }
+    ensures value { let w = suc setting.entry.v in let kind = setting.entry.table.kind in let table = setting.entry.table.bytes.now in result ≡ first_failing (state_inputs w kind table state.temperature state.density) (state_accepted w kind table state.temperature state.density) }
+    ensures sheet_numbers { SheetNumbers result }
 {
-    let t = state.temperature;
-    let rho = state.density;
-    if !sheet_passes(kind, t, rho) {
-        return verdict::state_sheet(width, kind, table, state);
+    let kind = setting.table.kind;
+    if !sheet_passes(kind, state) {
+        return sheets::screened(setting, state);
     }
-    let a = phase_of(width - 1, kind, table, list, t, rho);
-    verdict::sheets::worked(kind, a.pressure, a.stiffness)
+    let a = phase_of(setting, list, state);
+    sheets::worked(kind, a.pressure, a.stiffness)
 }
 
 pub fn density_check(
-    width: u64,
-    kind: u64,
-    table: &[u8],
+    setting: Setting,
     list: [Term; 64],
     state: State,
     target: f64,
     tolerance: f64,
 ) -> Result<Ends, Rejection>
-    requires { Sound width kind table.now × Holds kind table.now list }
-    ensures { DensityStated width kind table.now state.temperature state.density target tolerance result × AnswerNumbers result }
+    requires { Holds setting.table.kind setting.table.bytes.now list }
+    ensures value { let w = suc setting.entry.v in let kind = setting.entry.table.kind in let table = setting.entry.table.bytes.now in result ≡ first_failing (density_inputs w kind table state.temperature state.density target tolerance) (Ok (handed_out (pressure w kind table (exact_of state.temperature) (exact_of state.density)))) }
+    ensures answer_numbers { AnswerNumbers result }
 {
-    let t = state.temperature;
-    let rho = state.density;
-    if !density_passes(kind, t, rho, target, tolerance) {
-        return verdict::density_check(width, kind, table, state, target, tolerance);
+    if !density_passes(setting.table.kind, state, target, tolerance) {
+        return densities::screened(setting, state, target, tolerance);
     }
-    density_worked(width - 1, kind, table, list, t, rho, target, tolerance)
+    density_worked(setting, list, state, target, tolerance)
 }
 
 pub fn pair_check(
-    width: u64,
-    kind: u64,
-    table: &[u8],
+    setting: Setting,
     list: [Term; 64],
     liquid: State,
     vapour: f64,
     pressure_tolerance: f64,
     gibbs_tolerance: f64,
 ) -> Result<Ends, Rejection>
-    requires { Sound width kind table.now × Holds kind table.now list }
-    ensures { PairStated width kind table.now liquid.temperature liquid.density vapour pressure_tolerance gibbs_tolerance result × AnswerNumbers result }
+    requires { Holds setting.table.kind setting.table.bytes.now list }
+    ensures value { let w = suc setting.entry.v in let kind = setting.entry.table.kind in let table = setting.entry.table.bytes.now in result ≡ first_failing (pair_inputs w kind table liquid.temperature liquid.density vapour pressure_tolerance gibbs_tolerance) (Ok (handed_out (pressure w kind table (exact_of liquid.temperature) (exact_of vapour)))) }
+    ensures answer_numbers { AnswerNumbers result }
 {
-    let t = liquid.temperature;
-    let rho = liquid.density;
-    if !pair_passes(kind, t, rho, vapour, pressure_tolerance, gibbs_tolerance) {
-        return verdict::pair_check(
-            width,
-            kind,
-            table,
-            liquid,
-            vapour,
-            pressure_tolerance,
-            gibbs_tolerance,
-        );
+    if !pair_passes(
+        setting.table.kind,
+        liquid,
+        vapour,
+        pressure_tolerance,
+        gibbs_tolerance,
+    ) {
+        return pairs::screened(setting, liquid, vapour, pressure_tolerance, gibbs_tolerance);
     }
     pair_worked(
-        width - 1,
-        kind,
-        table,
+        setting,
         list,
-        t,
-        rho,
+        liquid,
         vapour,
         pressure_tolerance,
         gibbs_tolerance,

@@ -1,10 +1,8 @@
 // The three sums at one density: one pass over the rows, from zero, left to right.
-ghost use Rattle.std.specs.Prelude.{◌≡◌, true, suc, T};
-ghost use Rattle.sheet.specs.Range.{Width};
+ghost use Rattle.std.specs.Prelude.{◌≡◌, suc, T};
 ghost use Rattle.kind.specs.Kind.{widest};
 ghost use Rattle.doubles.specs.Double.{exact_of};
 ghost use Rattle.doubles.specs.Range.{accepted_temperature, accepted_density};
-ghost use Rattle.term.specs.Sound.{sound_table};
 ghost use Rattle.equation.specs.Rules.{plus_each, sums};
 ghost use Rattle.equation.specs.Ranged.{AllHeld};
 ghost use Rattle.quick.specs.Kept.{addends_by, Addable};
@@ -15,9 +13,10 @@ use crate::powers::{NOTHING, powers};
 use crate::ready::{Ready, Row};
 use bracket::Bracket;
 use equation::Sums;
+use verdict::Setting;
 
-// The sums with a row's addends, by its power of delta and what is kept for it. All is done here, and nothing is handed on whole: so the sums
-// of the pass stay scalars.
+// The sums with a row's addends, by its power of delta and what is kept for it.
+// Stays: not by the equation's `plus_each`: all is done here and nothing is handed on whole, so the sums of the pass stay scalars.
 fn add_row(
     v: u64,
     row: Row,
@@ -39,21 +38,22 @@ fn add_row(
     Sums { s0, s1, s2 }
 }
 
-// What the terms share is kept at the first place that has it, each kind in an array of its own: so a product reads it where it lies.
-pub fn sums_of(v: u64, kind: u64, table: &[u8], ready: Ready, rho: f64) -> Sums
-    requires width { Width v × (sound_table kind table.now ≡ true) × ReadyFor (suc v) kind table.now ready }
+// What the terms share is kept at the first place that has it.
+// Stays: four arrays and not one of `Kept`: a product reads a bracket where it lies, and not out of a whole copied from its place.
+pub fn sums_of(setting: Setting, ready: Ready, rho: f64) -> Sums
+    requires ready_for { ReadyFor (suc setting.v) setting.table.kind setting.table.bytes.now ready }
     requires accepted { T (accepted_temperature widest ready.t) × T (accepted_density widest rho) }
-    ensures { result ≡ sums (suc v) kind table.now (exact_of ready.t) (exact_of rho) }
+    ensures { result ≡ sums (suc setting.entry.v) setting.entry.table.kind setting.entry.table.bytes.now (exact_of ready.t) (exact_of rho) }
 {
+    let v = setting.v;
     let deltas = powers(v, equation::delta(v, rho), ready.far);
     let rows = ready.rows;
-    let count = term::count_terms(kind, table);
     let mut gs = [NOTHING; 64];
     let mut es = [NOTHING; 64];
     let mut ws = [NOTHING; 64];
     let mut factors = [NOTHING; 64];
     let mut s = equation::no_sums(v);
-    for i in 0..count {
+    for i in 0..setting.table.count() {
         let row = rows[i];
         let term = row.term;
         let like = row.like;

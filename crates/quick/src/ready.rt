@@ -1,11 +1,10 @@
 // What a table gives at one temperature, made ready once for every density: each term with its coefficient, its power of tau, and the first
 // places of the terms that share its exponential and its weights.
-ghost use Rattle.std.specs.Prelude.{◌≡◌, true, suc, ◌≤◌, T, length, get_or};
+ghost use Rattle.std.specs.Prelude.{◌≡◌, suc, ◌≤◌, T, length, get_or};
 ghost use Rattle.sheet.specs.Range.{Width};
 ghost use Rattle.kind.specs.Kind.{widest};
 ghost use Rattle.doubles.specs.Range.{accepted_temperature};
 ghost use Rattle.term.specs.Bounds.{Bounds};
-ghost use Rattle.term.specs.Sound.{sound_table};
 ghost use Rattle.equation.specs.Rules.{coefficient};
 ghost use Rattle.quick.specs.Powers.{nothing};
 ghost use Rattle.quick.specs.Unpacked.{blank, Holds, AllBounds};
@@ -16,6 +15,7 @@ use crate::powers::{NOTHING, powers};
 use crate::unpacked::BLANK;
 use bracket::Bracket;
 use term::Term;
+use verdict::Setting;
 
 // A term, its coefficient and tau to the power t; `same` is the first place with its c and factor, `like` the first with its d too.
 #[derive(Clone, Copy)]
@@ -35,6 +35,7 @@ pub struct Reach {
 }
 
 // The rows at a temperature, and the highest power of delta that they need.
+// Stays: 64 places each, here and where terms, keys and powers are listed, since the library has no heap.
 #[derive(Clone, Copy)]
 pub struct Ready {
     pub t: f64,
@@ -102,12 +103,13 @@ fn rows_of(v: u64, terms: &[Term], taus: &[Bracket; 64]) -> [Row; 64]
 }
 
 // All of it for a table's terms at a temperature.
-pub fn made_ready(v: u64, kind: u64, table: &[u8], list: [Term; 64], t: f64) -> Ready
-    requires width { Width v × (sound_table kind table.now ≡ true) × Holds kind table.now list }
+pub fn made_ready(setting: Setting, list: [Term; 64], t: f64) -> Ready
+    requires held { Holds setting.table.kind setting.table.bytes.now list }
     requires t_accepted { T (accepted_temperature widest t) }
-    ensures { ReadyFor (suc v) kind table.now result × (result.t ≡ t) }
+    ensures { ReadyFor (suc setting.entry.v) setting.entry.table.kind setting.entry.table.bytes.now result × (result.t ≡ t) }
 {
-    let terms = &list[..term::count_terms(kind, table)];
+    let v = setting.v;
+    let terms = &list[..setting.table.count()];
     let far = reach_of(terms);
     let taus = powers(v, equation::tau(v, t), far.t);
     let rows = rows_of(v, terms, &taus);

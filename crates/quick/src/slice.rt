@@ -1,12 +1,13 @@
 // The slice of terms: lent by the caller, or of this crate's own. The only functions that hold a reference to it.
-ghost use Rattle.std.specs.Prelude.{◌≡◌, ◌++◌, ◌≤◌, length, take, drop};
+ghost use Rattle.std.specs.Prelude.{◌≡◌, ◌++◌, ◌≤◌, suc, length, take, drop};
 ghost use Rattle.quick.specs.Lent.{plain_reply, Stated};
 ghost use Rattle.quick.specs.Reading.{ReplyNumbers};
 
-use crate::replies::{count_laid, reply};
+use crate::replies::quick;
 use crate::unpacked::{BLANK, terms_of};
 use crate::{Question, Reply};
 use term::Term;
+use verdict::Setting;
 
 // The first `count` terms of a list at the front of the slice; the places behind them stay.
 fn lay(list: [Term; 64], count: usize, terms: &mut [Term])
@@ -16,16 +17,28 @@ fn lay(list: [Term; 64], count: usize, terms: &mut [Term])
     terms[..count].copy_from_slice(&list[..count]);
 }
 
+// The reply where none of 19, 29, 1 and 2 refuses.
+fn ask_at(setting: Setting, terms: &mut [Term], question: Question) -> Reply
+    ensures { Stated (suc setting.entry.v) setting.entry.table.kind setting.entry.table.bytes.now terms.old terms.new question result }
+{
+    let count = setting.table.count();
+    if terms.len() < count {
+        return Reply::Short;
+    }
+    let list = terms_of(setting.table.kind, setting.table.bytes, count);
+    lay(list, count, terms);
+    quick(setting, list, question)
+}
+
 // The reply to a question with a lent slice.
 pub fn ask(width: u64, kind: u64, table: &[u8], terms: &mut [Term], question: Question) -> Reply
     ensures stated { Stated width kind table.now terms.old terms.new question result }
     ensures table_stays { table.exit.now ≡ table.entry.now }
 {
-    let room = terms.len();
-    let count = count_laid(width, kind, table, room);
-    let list = terms_of(kind, table, count);
-    lay(list, count, terms);
-    reply(width, kind, table, list, count, room, question)
+    match Setting::check(width, kind, table) {
+        Ok(setting) => ask_at(setting, terms, question),
+        Err(why) => question.refused(why),
+    }
 }
 
 // The reply with a slice of 64 terms of its own, which holds every sound table.

@@ -3,7 +3,7 @@ use Rattle.std.specs.Prelude.{Some, None, Err}
 use Prim.Native.Nat.{ℕ}
 use mathlib.Core.Path.{◌≡◌, refl, sym, ap, ◌∙◌}
 use mathlib.Core.Bool.{Bool, true, false, cond}
-use mathlib.Core.List.{List}
+use mathlib.Core.List.{List, []}
 use native.Mathlib.Omega.{arith}
 use lib.ListN.{length}
 use lib.Dec.{eqb}
@@ -17,7 +17,7 @@ use Rattle.verdict.specs.declared.Refusal.{Refusal}
 use Rattle.verdict.specs.declared.Refusal.TheVariants.{TableLength, BrokenTerm}
 use Rattle.verdict.specs.Steps.{Step, first_failing}
 use Rattle.verdict.specs.Rules.{table_steps, first_steps, first_refusal, fault_refusal, sound_width}
-use Rattle.verdict.proofs.Order.{on_pass, fails-at}
+use Rattle.verdict.proofs.Order.{on_pass, all_pass, fails-at}
 use Rattle.verdict.proofs.Tests.{both, together}
 
 pub table_parts : (kind : ℕ) (table : List ℕ) → sound_table kind table ≡ true → (sound_length kind (length table) ≡ true) × (eqb (first_broken kind table) 0 ≡ true)
@@ -47,6 +47,13 @@ module _ {A : Type 0} (refused : Refusal → A) (kind : ℕ) (table : List ℕ) 
   on_sound h = let p = table_parts kind table h in on_pass _ _ last p.0 ∙ on_pass _ rest last p.1
 
 -- ---- 19, 29, 1 and 2 together
+
+-- none refuses a width, a kind and a sound table of it
+pub none-refuses : (w kind : ℕ) (table : List ℕ) → sound_width w ≡ true → sound_kind kind ≡ true → sound_table kind table ≡ true → first_refusal w kind table ≡ None
+unfolding first_refusal
+none-refuses w kind table wide known good =
+    on_pass _ _ None wide ∙ on_pass _ _ None known ∙ on_sound Some kind table [] None good ∙ all_pass [] None tt
+
 module _ {A : Type 0} (refused : Refusal → A) where
   -- by the four tests: where one fails, and where all pass
   refused-when : (a b c d : Bool) (why₁ why₂ why₃ why₄ why : Refusal) (then : A)

@@ -38,7 +38,12 @@ pub fn worked(
 }
 
 // 3 to 6, and what follows.
-fn screened(setting: Setting, state: State, target: f64, tolerance: f64) -> Result<Ends, Rejection>
+pub fn screened(
+    setting: Setting,
+    state: State,
+    target: f64,
+    tolerance: f64,
+) -> Result<Ends, Rejection>
     ensures value { result ≡ first_failing (density_inputs (suc setting.entry.v) setting.entry.table.kind setting.entry.table.bytes.now state.temperature state.density target tolerance) (Ok (handed_out (pressure (suc setting.entry.v) setting.entry.table.kind setting.entry.table.bytes.now (exact_of state.temperature) (exact_of state.density)))) }
     ensures answer_numbers { AnswerNumbers result }
 {

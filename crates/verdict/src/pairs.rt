@@ -132,7 +132,7 @@ fn worked(
 }
 
 // 3, 4, 6 and 7, and what follows.
-fn screened(
+pub fn screened(
     setting: Setting,
     liquid: State,
     vapour: f64,

@@ -1,5 +1,6 @@
 // A width and a table that the first checks let through. Who is handed one needs to ask neither again.
 ghost use Rattle.std.specs.Prelude.{◌≡◌, suc, true};
+ghost use Rattle.kind.specs.Kind.{sound_kind};
 ghost use Rattle.verdict.specs.Rules.{sound_width};
 
 use crate::Refusal;
@@ -12,6 +13,7 @@ pub struct Setting<'a> {
     pub v: u64,
     pub table: SoundTable<'a>,
     pub ghost width_sound: { sound_width (suc v) ≡ true },
+    pub ghost kind_sound: { sound_kind table.kind ≡ true },
 }
 
 impl<'a> Setting<'a> {

@@ -28,7 +28,7 @@ pub fn worked(kind: u64, pressure: Bracket, stiffness: Bracket) -> Result<StateS
 }
 
 // 3 and 4, and what follows.
-fn screened(setting: Setting, state: State) -> Result<StateSheet, Refusal>
+pub fn screened(setting: Setting, state: State) -> Result<StateSheet, Refusal>
     ensures value { result ≡ first_failing (state_inputs (suc setting.entry.v) setting.entry.table.kind setting.entry.table.bytes.now state.temperature state.density) (state_accepted (suc setting.entry.v) setting.entry.table.kind setting.entry.table.bytes.now state.temperature state.density) }
     ensures sheet_numbers { SheetNumbers result }
 {

@@ -46,29 +46,29 @@ module _ {v : ℕ} (b : Bracket) (q : TauIn v b) where
   unfolding addend
   addend-held term s = let r = room in combined-held wide ◌⊗◌ _ _ (omega arith) (omega arith) (addend-sized v b q.each term s)
 
-  module _ (pick : Pick) (table : List ℕ) (sound : sound_table 38 table ≡ true) where
-    first_summed : (n : ℕ) → n ≤ count_terms 38 table → Each (Summed v (bias - (180 + v)) (bias + 193 + n)) (ends (sum_first (suc v) pick (term_at 38 table) b n))
-    first_summed n l = sum_first-summed v b q.each bits pick (term_at 38 table) n (λ k i. sound-bounds 38 table sound k (le_trans i l))
+  module _ (pick : Pick) (kind : ℕ) (table : List ℕ) (sound : sound_table kind table ≡ true) where
+    first_summed : (n : ℕ) → n ≤ count_terms kind table → Each (Summed v (bias - (180 + v)) (bias + 193 + n)) (ends (sum_first (suc v) pick (term_at kind table) b n))
+    first_summed n l = sum_first-summed v b q.each bits pick (term_at kind table) n (λ k i. sound-bounds kind table sound k (le_trans i l))
 
-    pub first_held : (n : ℕ) → n ≤ count_terms 38 table → Held v (sum_first (suc v) pick (term_at 38 table) b n)
+    pub first_held : (n : ℕ) → n ≤ count_terms kind table → Held v (sum_first (suc v) pick (term_at kind table) b n)
     unfolding sum_first with_term
     first_held zero l = whole_held wide 0 (omega arith)
-    first_held (suc n) l = go (picks pick (term_at 38 table n)) (first_held n (omega arith))
+    first_held (suc n) l = go (picks pick (term_at kind table n)) (first_held n (omega arith))
       where
-        go : (p : Bool) → Held v (sum_first (suc v) pick (term_at 38 table) b n)
-            → Held v (cond p (plus (suc v) (ends (sum_first (suc v) pick (term_at 38 table) b n)) (ends (addend (suc v) (term_at 38 table n) b))) (sum_first (suc v) pick (term_at 38 table) b n))
+        go : (p : Bool) → Held v (sum_first (suc v) pick (term_at kind table) b n)
+            → Held v (cond p (plus (suc v) (ends (sum_first (suc v) pick (term_at kind table) b n)) (ends (addend (suc v) (term_at kind table n) b))) (sum_first (suc v) pick (term_at kind table) b n))
         go true h =
             let r = room in
             let w = wide in
-            let f = sound-few 38 table sound in
+            let f = sound-few kind table sound in
             combined-held wide ◌⊕◌ _ _ (omega arith) (omega arith)
-            (summed_digits (plus-addend v b q.each bits n _ (first_summed n (omega arith)) (term_at 38 table n) (sound-bounds 38 table sound n l)))
+            (summed_digits (plus-addend v b q.each bits n _ (first_summed n (omega arith)) (term_at kind table n) (sound-bounds kind table sound n l)))
         go false h = h
 
-    pub sum_in : SumIn v (sum_first (suc v) pick (term_at 38 table) b (count_terms 38 table))
+    pub sum_in : SumIn v (sum_first (suc v) pick (term_at kind table) b (count_terms kind table))
     sum_in =
-        let f = sound-few 38 table sound in
-        record { held = first_held (count_terms 38 table) (le_refl _); each = summed_in (omega arith) (first_summed (count_terms 38 table) (le_refl _)) }
+        let f = sound-few kind table sound in
+        record { held = first_held (count_terms kind table) (le_refl _); each = summed_in (omega arith) (first_summed (count_terms kind table) (le_refl _)) }
 
 -- ---- B and C
 
@@ -102,8 +102,8 @@ module _ {v : ℕ} (w : Width v) where
   coefficients-in table sound t =
       let τ = tau-in w t in
       record {
-        second = second_in _ (sum_in _ τ First table sound);
-        third = third-in _ _ (sum_in _ τ Second table sound) (sum_in _ τ FirstDamped table sound);
+        second = second_in _ (sum_in _ τ First 38 table sound);
+        third = third-in _ _ (sum_in _ τ Second 38 table sound) (sum_in _ τ FirstDamped 38 table sound);
       }
 
 -- ---- the polynomial and its pressure

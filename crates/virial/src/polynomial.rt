@@ -1,16 +1,15 @@
 // B and C by their sums over a table, and the pressure of their polynomial.
-ghost use Rattle.std.specs.Prelude.{◌≡◌, true, suc, T};
-ghost use Rattle.sheet.specs.Range.{Width};
+ghost use Rattle.std.specs.Prelude.{◌≡◌, suc, T};
 ghost use Rattle.kind.specs.Kind.{widest};
 ghost use Rattle.doubles.specs.Double.{exact_of};
 ghost use Rattle.doubles.specs.Range.{accepted_temperature, accepted_density};
-ghost use Rattle.term.specs.Sound.{sound_table};
 ghost use Rattle.virial.specs.Rules.{second_of, third_of, coefficients, polynomial, pressure_of};
 ghost use Rattle.virial.specs.Ranged.{SumIn, CoefficientsIn};
 
 use crate::sums::sum_over;
 use crate::{Coefficients, Pick};
 use bracket::Bracket;
+use verdict::Setting;
 
 // B by the sum over d = 1.
 fn second_of(v: u64, first: Bracket) -> Bracket
@@ -32,14 +31,15 @@ fn third_of(v: u64, second: Bracket, damped: Bracket) -> Bracket
     bracket::quotient(v, twice, square)
 }
 
-pub fn coefficients_of(v: u64, table: &[u8], t: f64) -> Coefficients
-    requires { Width v × (sound_table 38 table.now ≡ true) × T (accepted_temperature widest t) }
-    ensures { result ≡ coefficients (suc v) table.now (exact_of t) }
+pub fn coefficients_of(setting: Setting, t: f64) -> Coefficients
+    requires { (setting.table.kind ≡ 38) × T (accepted_temperature widest t) }
+    ensures { result ≡ coefficients (suc setting.entry.v) setting.entry.table.bytes.now (exact_of t) }
 {
+    let v = setting.v;
     let tau = equation::tau(v, t);
-    let first = sum_over(v, Pick::First, table, tau);
-    let second = sum_over(v, Pick::Second, table, tau);
-    let damped = sum_over(v, Pick::FirstDamped, table, tau);
+    let first = sum_over(v, Pick::First, setting.table, tau);
+    let second = sum_over(v, Pick::Second, setting.table, tau);
+    let damped = sum_over(v, Pick::FirstDamped, setting.table, tau);
     Coefficients {
         second: second_of(v, first),
         third: third_of(v, second, damped),

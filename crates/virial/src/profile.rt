@@ -2,6 +2,7 @@
 ghost use Rattle.std.specs.Prelude.{◌≡◌};
 ghost use Rattle.virial.specs.Profile.{profile_temperature, profile_density};
 
+// Stays: one function a quantity: each has a rule of its own to meet, which names the same limits.
 pub fn takes_temperature(t: f64) -> bool
     ensures { result ≡ profile_temperature t }
 {

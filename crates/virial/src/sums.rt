@@ -1,15 +1,14 @@
 // A sum of coefficient times tau^t over some of a table's terms: from zero, in table order.
-ghost use Rattle.std.specs.Prelude.{◌≡◌, true, suc, ◌<◌};
+ghost use Rattle.std.specs.Prelude.{◌≡◌, suc, ◌<◌};
 ghost use Rattle.term.specs.Bounds.{Bounds};
 ghost use Rattle.term.specs.Packed.{term_at, count_terms};
-ghost use Rattle.term.specs.Sound.{sound_table};
 ghost use Rattle.bracket.specs.Held.{Held};
 ghost use Rattle.equation.specs.Ranged.{TauIn};
 ghost use Rattle.virial.specs.Sums.{picks, addend, with_term, sum_first};
 
 use crate::Pick;
 use bracket::Bracket;
-use term::Term;
+use term::{SoundTable, Term};
 
 // Whether the sum takes the term.
 #[tactic(auto, unfolding(crate::specs::Sums::picks))]
@@ -32,12 +31,12 @@ fn addend(v: u64, term: Term, tau: Bracket) -> Bracket
 }
 
 // The sum with the k-th term's addend, where it is taken.
-fn add_term(v: u64, pick: Pick, table: &[u8], k: usize, tau: Bracket, s: Bracket) -> Bracket
-    requires table_sound { (sound_table 38 table.now ≡ true) × (k < count_terms 38 table.now) }
+fn add_term(v: u64, pick: Pick, table: SoundTable, k: usize, tau: Bracket, s: Bracket) -> Bracket
+    requires k_below { k < count_terms table.kind table.bytes.now }
     requires tau_in { TauIn v tau × Held v s }
-    ensures { result ≡ with_term (suc v) pick (term_at 38 table.now k) tau s }
+    ensures { result ≡ with_term (suc v) pick (term_at table.entry.kind table.entry.bytes.now k) tau s }
 {
-    let term = term::term_at(38, table, k);
+    let term = table.at(k);
     if picks(pick, term) {
         bracket::sum(v, s, addend(v, term, tau))
     } else {
@@ -45,11 +44,11 @@ fn add_term(v: u64, pick: Pick, table: &[u8], k: usize, tau: Bracket, s: Bracket
     }
 }
 
-pub fn sum_over(v: u64, pick: Pick, table: &[u8], tau: Bracket) -> Bracket
-    requires { (sound_table 38 table.now ≡ true) × TauIn v tau }
-    ensures { result ≡ sum_first (suc v) pick (term_at 38 table.now) tau (count_terms 38 table.now) }
+pub fn sum_over(v: u64, pick: Pick, table: SoundTable, tau: Bracket) -> Bracket
+    requires { TauIn v tau }
+    ensures { result ≡ sum_first (suc v) pick (term_at table.entry.kind table.entry.bytes.now) tau (count_terms table.entry.kind table.entry.bytes.now) }
 {
-    let count = term::count_terms(38, table);
+    let count = table.count();
     let mut s = bracket::whole(v, 0);
     for i in 0..count {
         s = add_term(v, pick, table, i, tau, s);

@@ -4,56 +4,61 @@ use Rattle.doubles.proofs.Limits.{temperature_widest, density_widest}
 use Rattle.equation.specs.Rules.{pressure_gap, gibbs_gap}
 use Rattle.verdict.specs.Worked.{phase_of}
 use Rattle.verdict.proofs.Tests.{holds}
+use Rattle.verdict.proofs.EitherWidth.{width_of}
 use Rattle.verdict.proofs.Ready.{sums-ready, pressure-ready, pressure-handy, stiffness-handy, pressure_gap-handy, gibbs_gap-handy}
 use Rattle.quick.proofs.answers.pair_worked.Goals as goal
 
 pub made_ready-ready-requires : goal.made_ready-ready-requires
 made_ready-ready-requires c =
-    let a = c.args in
     let p = c.requires in
-    record { width = (p.0.width, p.0.table_sound, p.1); t_accepted = temperature_widest a.kind a.t p.0.temperature }
+    record { held = p.1; t_accepted = temperature_widest _ _ p.0.temperature }
 
 pub phase-l-requires : goal.phase-l-requires
 phase-l-requires c =
     let p = c.requires.0 in
-    (record { width = p.width; table_sound = p.table_sound; temperature = p.temperature; density = p.liquid_density }, c.made_ready-ready.ensures)
+    (record { temperature = p.temperature; density = p.liquid_density }, c.made_ready-ready.ensures)
 
 pub phase-g-requires : goal.phase-g-requires
 phase-g-requires c =
     let p = c.requires.0 in
-    (record { width = p.width; table_sound = p.table_sound; temperature = p.temperature; density = p.vapour_density }, c.made_ready-ready.ensures)
+    (record { temperature = p.temperature; density = p.vapour_density }, c.made_ready-ready.ensures)
 
 pub pressure_gap_of-gap-requires : goal.pressure_gap_of-gap-requires
 unfolding phase_of
 pressure_gap_of-gap-requires c =
     let p = c.requires.0 in
+    let s = c.args.setting in
+    let v = width_of _ s.width_sound in
     rw (c.phase-g.ensures, c.phase-l.ensures)
-    (pressure-ready p.width _ _ p.table_sound _ p.temperature _ p.liquid_density, pressure-ready p.width _ _ p.table_sound _ p.temperature _ p.vapour_density)
+    (pressure-ready v _ _ s.table.sound _ p.temperature _ p.liquid_density, pressure-ready v _ _ s.table.sound _ p.temperature _ p.vapour_density)
 
 pub gibbs_gap_of-gibbs-requires : goal.gibbs_gap_of-gibbs-requires
 unfolding phase_of
 gibbs_gap_of-gibbs-requires c =
-    let a = c.args in
-    let p = c.requires.0 in (
-      temperature_widest a.kind a.t p.temperature,
-      record { dense = density_widest a.kind a.liquid p.liquid_density; thin = density_widest a.kind a.vapour p.vapour_density; order = holds (≼-leq p.above) },
-      rw c.phase-l.ensures (sums-ready p.width _ _ p.table_sound _ p.temperature _ p.liquid_density),
-      rw c.phase-g.ensures (sums-ready p.width _ _ p.table_sound _ p.temperature _ p.vapour_density),
+    let p = c.requires.0 in
+    let s = c.args.setting in
+    let v = width_of _ s.width_sound in (
+      temperature_widest _ _ p.temperature,
+      record { dense = density_widest _ _ p.liquid_density; thin = density_widest _ _ p.vapour_density; order = holds (≼-leq p.above) },
+      rw c.phase-l.ensures (sums-ready v _ _ s.table.sound _ p.temperature _ p.liquid_density),
+      rw c.phase-g.ensures (sums-ready v _ _ s.table.sound _ p.temperature _ p.vapour_density),
     )
 
 pub judged-requires : goal.judged-requires
 unfolding phase_of pressure_gap gibbs_gap
 judged-requires c =
-    let p = c.requires.0 in (
+    let p = c.requires.0 in
+    let s = c.args.setting in
+    let v = width_of _ s.width_sound in (
       rw (c.gibbs_gap_of-gibbs.ensures, c.pressure_gap_of-gap.ensures, c.phase-g.ensures, c.phase-l.ensures) (
         (
-          (pressure-handy p.width _ _ p.table_sound _ p.temperature _ p.liquid_density, pressure-handy p.width _ _ p.table_sound _ p.temperature _ p.vapour_density),
+          (pressure-handy v _ _ s.table.sound _ p.temperature _ p.liquid_density, pressure-handy v _ _ s.table.sound _ p.temperature _ p.vapour_density),
           (
-            pressure_gap-handy p.width _ _ p.table_sound _ p.temperature _ _ p.liquid_density p.vapour_density,
-            gibbs_gap-handy p.width _ _ p.table_sound _ p.temperature _ _ p.liquid_density p.vapour_density p.above,
+            pressure_gap-handy v _ _ s.table.sound _ p.temperature _ _ p.liquid_density p.vapour_density,
+            gibbs_gap-handy v _ _ s.table.sound _ p.temperature _ _ p.liquid_density p.vapour_density p.above,
           ),
         ),
-        (stiffness-handy p.width _ _ p.table_sound _ p.temperature _ p.liquid_density, stiffness-handy p.width _ _ p.table_sound _ p.temperature _ p.vapour_density),
+        (stiffness-handy v _ _ s.table.sound _ p.temperature _ p.liquid_density, stiffness-handy v _ _ s.table.sound _ p.temperature _ p.vapour_density),
       ),
       (p.pressure-tolerance, p.gibbs-tolerance),
     )

@@ -3,10 +3,7 @@ use Rattle.doubles.proofs.Limits.{temperature_widest}
 use Rattle.quick.proofs.answers.phase_of.Goals as goal
 
 pub made_ready-ready-requires : goal.made_ready-ready-requires
-made_ready-ready-requires c =
-    let a = c.args in
-    let p = c.requires in
-    record { width = (p.0.width, p.0.table_sound, p.1); t_accepted = temperature_widest a.kind a.t p.0.temperature }
+made_ready-ready-requires c = record { held = c.requires.1; t_accepted = temperature_widest _ _ c.requires.0.temperature }
 
 pub phase-requires : goal.phase-requires
 phase-requires c = (c.requires.0, c.made_ready-ready.ensures)

@@ -7,40 +7,42 @@ use Rattle.term.proofs.Answers.{sound-few}
 use Rattle.equation.specs.Ranged.{TauIn}
 use Rattle.equation.proofs.Holds.{tau-in, tau-powers}
 use Rattle.equation.proofs.Taken.{temperature_of}
+use Rattle.verdict.proofs.EitherWidth.{width_of}
 use Rattle.quick.proofs.Listed.{held_terms, terms-length, terms-bounds}
 use Rattle.quick.proofs.Rowed.{ready_for}
 use Rattle.quick.proofs.ready.made_ready.Goals as goal
 
 pub slice_bounds-list-end : goal.slice_bounds-list-end
-slice_bounds-list-end c = omega (arith, c.count_terms.ensures, sound-few c.args.kind c.args.table.now c.requires.width.1)
+slice_bounds-list-end c = omega (arith, c.count.ensures, sound-few _ _ c.args.setting.table.sound)
 
 pub slice_bounds-terms-end : goal.slice_bounds-terms-end
 slice_bounds-terms-end c =
-    let few = sound-few c.args.kind c.args.table.now c.requires.width.1 in
-    let n = c.count_terms.ensures in
+    let few = sound-few _ _ c.args.setting.table.sound in
+    let n = c.count.ensures in
     simp length-take (omega arith)
 
 pub reach_of-far-requires : goal.reach_of-far-requires
 reach_of-far-requires c =
-    let a = c.args in
-    let p = c.requires.width in
-    terms-bounds a.kind a.table.now (held_terms a.kind a.table.now c.count_terms.ensures p.2) p.1
+    let a = c.args.setting in
+    terms-bounds a.table.kind a.table.bytes.now (held_terms a.table.kind a.table.bytes.now c.count.ensures c.requires.held) a.table.sound
+
+pub tau-requires : goal.tau-requires
+tau-requires c = (width_of _ c.args.setting.width_sound, c.requires.t_accepted)
 
 pub powers-taus-requires : goal.powers-taus-requires
 powers-taus-requires c =
     let r = c.reach_of-far.ensures in
-    let q = subst (TauIn c.args.v) (sym c.tau.ensures) (tau-in c.requires.width.0 (temperature_of c.args.t c.requires.t_accepted)) in
+    let q = subst (TauIn c.args.setting.v) (sym c.tau.ensures) (tau-in (width_of _ c.args.setting.width_sound) (temperature_of c.args.t c.requires.t_accepted)) in
     (tau-powers _ q _ r.t_most, r.t_most)
 
 pub rows_of-rows-requires : goal.rows_of-rows-requires
 rows_of-rows-requires c =
-    let a = c.args in
-    let p = c.requires.width in
-    let e = held_terms a.kind a.table.now c.count_terms.ensures p.2 in
-    (p.0, terms-bounds a.kind a.table.now e p.1, omega (arith, terms-length a.kind a.table.now e, sound-few a.kind a.table.now p.1))
+    let a = c.args.setting in
+    let e = held_terms a.table.kind a.table.bytes.now c.count.ensures c.requires.held in
+    (width_of _ a.width_sound, terms-bounds a.table.kind a.table.bytes.now e a.table.sound, omega (arith, terms-length a.table.kind a.table.bytes.now e, sound-few a.table.kind a.table.bytes.now a.table.sound))
 
 pub returns : goal.returns
 returns c =
-    let a = c.args in
-    let e = held_terms a.kind a.table.now c.count_terms.ensures c.requires.width.2 in
-    (ready_for (suc a.v) a.kind a.table.now a.t e c.reach_of-far.result c.reach_of-far.ensures c.tau.ensures c.powers-taus.result c.powers-taus.ensures c.rows_of-rows.ensures, refl)
+    let a = c.args.setting in
+    let e = held_terms a.table.kind a.table.bytes.now c.count.ensures c.requires.held in
+    (ready_for (suc a.v) a.table.kind a.table.bytes.now c.args.t e c.reach_of-far.result c.reach_of-far.ensures c.tau.ensures c.powers-taus.result c.powers-taus.ensures c.rows_of-rows.ensures, refl)

@@ -1,15 +1,22 @@
 -- `quick::slice::ask` meets its contract. Assumes nothing.
-use Rattle.std.proofs.Common.{sym, subst, length, arith}
-use Rattle.quick.specs.Unpacked.{Readable}
-use Rattle.quick.proofs.Laid.{laid-readable, laid-few, laid-inside}
+use mathlib.Core.Path.{refl, sym, ◌∙◌}
+use Rattle.quick.proofs.Laid.{refused-input, refused-reply}
+use Rattle.quick.proofs.Same.{slice_kept_early}
 use Rattle.quick.proofs.slice.ask.Goals as goal
 
-pub terms_of-list-requires : goal.terms_of-list-requires
-terms_of-list-requires c =
-    subst (Readable c.args.kind c.args.table.now) (sym c.count_laid-count.ensures.value) (laid-readable c.args.width c.args.kind c.args.table.now (length c.args.terms.now))
+pub returns-in-Ok : goal.returns-in-Ok
+returns-in-Ok c =
+    let s = c.in-Ok.ensures in
+    record { stated = rw (s.1, s.2, s.3) at c.ask_at.ensures; table_stays = refl }
 
-pub lay-requires : goal.lay-requires
-lay-requires c =
-    let room = length c.args.terms.now in
-    let n = c.count_laid-count.ensures.value in
-    (omega (arith, n, laid-few c.args.width c.args.kind c.args.table.now room), omega (arith, n, laid-inside c.args.width c.args.kind c.args.table.now room))
+pub returns-in-Err : goal.returns-in-Err
+returns-in-Err c =
+    let e = c.in-Err.ensures in
+    record {
+      stated = record {
+        replied = c.refused.ensures.value ∙ refused-reply _ _ _ _ _ _ e;
+        numbers = c.refused.ensures.reply_numbers;
+        slice = sym (slice_kept_early _ _ _ _ (refused-input _ _ _ _ e));
+      };
+      table_stays = refl;
+    }

@@ -11,28 +11,27 @@ use Rattle.virial.proofs.Holds.{first_held}
 use Rattle.virial.proofs.sums.sum_over.Goals as goal
 
 pub whole-s-requires : goal.whole-s-requires
-whole-s-requires c = (c.requires.1.held.lo.width, omega arith)
+whole-s-requires c = (c.requires.held.lo.width, omega arith)
 
 pub loop-i-init : goal.loop-i-init
 loop-i-init c =
     let a = c.args in
-    c.whole-s.ensures ∙ sum_first-none (suc a.v) a.pick (term_at 38 a.table.now) a.tau
+    c.whole-s.ensures ∙ sum_first-none (suc a.v) a.pick (term_at a.table.kind a.table.bytes.now) a.tau
 
 pub add_term-s-requires-clause-tau_in : goal.add_term-s-requires-clause-tau_in
 add_term-s-requires-clause-tau_in c =
     let a = c.args in
-    let r = c.requires in
-    (r.1, held-is c.loop-i.invariant (first_held a.tau r.1 a.pick a.table.now r.0 c.loop-i.i (omega arith)))
+    (c.requires, held-is c.loop-i.invariant (first_held a.tau c.requires a.pick a.table.kind a.table.bytes.now a.table.sound c.loop-i.i (omega arith)))
 
 pub loop-i-preserved : goal.loop-i-preserved
 loop-i-preserved c =
     let a = c.args in
-    let terms = term_at 38 a.table.now in
+    let terms = term_at a.table.kind a.table.bytes.now in
     let i = c.loop-i.i in
     c.add_term-s.ensures ∙ ap (λ (x : Bracket). with_term (suc a.v) a.pick (terms i) a.tau x) c.loop-i.invariant ∙ sum_first-more (suc a.v) a.pick terms a.tau i
 
 pub returns : goal.returns
 returns c =
     let a = c.args in
-    let i : c.loop-i.i ≡ count_terms 38 a.table.now = omega arith in
-    c.loop-i.invariant ∙ ap (λ (k : ℕ). sum_first (suc a.v) a.pick (term_at 38 a.table.now) a.tau k) i
+    let i : c.loop-i.i ≡ count_terms a.table.kind a.table.bytes.now = omega arith in
+    c.loop-i.invariant ∙ ap (λ (k : ℕ). sum_first (suc a.v) a.pick (term_at a.table.kind a.table.bytes.now) a.tau k) i

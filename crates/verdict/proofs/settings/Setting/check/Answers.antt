@@ -40,7 +40,8 @@ overflow_sub-result c = omega (arith, (one_less _ (passed c.sound_width.ensures 
 pub invariant_of-result : goal.invariant_of-result
 invariant_of-result c =
     let p = passed c.sound_width.ensures c.in_ok-unless.ensures in
-    record { width_sound = rw (one_less _ p).1 p }
+    let k = passed c.sound_kind.ensures c.in_ok-unless-2.ensures in
+    record { width_sound = rw (one_less _ p).1 p; kind_sound = rw c.in_ok-table.ensures.0 k }
 
 pub returns : goal.returns
 unfolding first_refusal

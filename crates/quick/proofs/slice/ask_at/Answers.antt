@@ -1,0 +1,44 @@
+-- `quick::slice::ask_at` meets its contract. Assumes nothing.
+use Rattle.std.proofs.Common.{sym, suc, ◌∙◌, length, arith}
+use Rattle.term.proofs.Answers.{sound-few}
+use Rattle.quick.proofs.Laid.{readable, count_sound, laid-all, reply_short, reply_plain}
+use Rattle.quick.proofs.Same.{slice_kept_20}
+use Rattle.quick.proofs.Stated.{laid-over}
+use Rattle.quick.proofs.slice.ask_at.Goals as goal
+
+pub returns-then-terms-count : goal.returns-then-terms-count
+returns-then-terms-count c =
+    let s = c.args.setting in
+    let n = c.count-count.ensures in
+    let k = count_sound _ _ _ (record { width_sound = s.width_sound; kind_sound = s.kind_sound; table_sound = s.table.sound }) in
+    let l = c.if-terms-count.true in
+    record {
+      replied = reply_short _ _ _ _ c.args.question (omega (arith, n, k, l));
+      numbers = tt;
+      slice = sym (slice_kept_20 _ _ _ c.args.terms.now (omega (arith, n, l)));
+    }
+
+pub terms_of-list-requires : goal.terms_of-list-requires
+terms_of-list-requires c = rw c.count-count.ensures (readable 0 _ _ c.args.setting.table.sound)
+
+pub lay-requires : goal.lay-requires
+lay-requires c =
+    let n = c.count-count.ensures in
+    let l = c.if-terms-count.false in
+    (omega (arith, n, sound-few _ _ c.args.setting.table.sound), omega (arith, l))
+
+pub quick-requires : goal.quick-requires
+quick-requires c = rw c.count-count.ensures at c.terms_of-list.ensures
+
+pub returns : goal.returns
+returns c =
+    let s = c.args.setting in
+    let n = c.count-count.ensures in
+    let k = count_sound _ _ _ (record { width_sound = s.width_sound; kind_sound = s.kind_sound; table_sound = s.table.sound }) in
+    let l = c.if-terms-count.false in
+    let all = laid-all (suc s.v) s.table.kind s.table.bytes.now (length c.args.terms.now) (omega (arith, n, k, l)) in
+    record {
+      replied = c.quick.ensures.value ∙ reply_plain _ _ _ _ c.args.question (omega (arith, n, k, l));
+      numbers = c.quick.ensures.reply_numbers;
+      slice = c.lay.ensures ∙ laid-over _ _ _ c.args.terms.now _ _ (n ∙ k ∙ all) c.terms_of-list.ensures;
+    }
