@@ -22,32 +22,21 @@ fn main(rt: HostRuntime) -> io::Result<()> {
     let length = read_table(&rt, &mut table)?;
     let mut input = rt.stdin();
     let mut output = rt.stdout();
-    answer_all(
-        &mut input,
-        &mut output,
-        width(&rt),
-        kind(&rt),
-        &table[..length],
-    )
+    let width = named(&rt, 1, |word| line::width_of(word), 32);
+    let kind = named(&rt, 2, |word| line::kind_of(word), 38);
+    answer_all(&mut input, &mut output, width, kind, &table[..length])
 }
 
-// A word of more than two bytes counts as empty: it names no width either, and every proposal gets 19.
-fn width(rt: &impl Env) -> u64 {
+// What a word of the command line names, or what stands for a word that is missing. A word of more than two bytes counts as empty: it names no
+// width, and every proposal gets 19, or no kind, and 29.
+fn named<F: Fn(&[u8]) -> u64>(rt: &impl Env, place: usize, name: F, missing: u64) -> u64
+    requires { F.IsAlwaysCallable name }
+{
     let mut word = [0u8; 2];
-    match rt.arg(1, &mut word) {
-        Ok(length) => line::width_of(&word[..length]),
-        Err(FillError::TooLong) => line::width_of(b""),
-        Err(FillError::NotPresent) => 32,
-    }
-}
-
-// The same for the kind, and 29.
-fn kind(rt: &impl Env) -> u64 {
-    let mut word = [0u8; 2];
-    match rt.arg(2, &mut word) {
-        Ok(length) => line::kind_of(&word[..length]),
-        Err(FillError::TooLong) => line::kind_of(b""),
-        Err(FillError::NotPresent) => 38,
+    match rt.arg(place, &mut word) {
+        Ok(length) => name(&word[..length]),
+        Err(FillError::TooLong) => name(b""),
+        Err(FillError::NotPresent) => missing,
     }
 }
 
@@ -102,7 +91,5 @@ fn answer_one<R: Read, W: Write>(
 fn write_line<W: Write>(output: &mut W, line: Line) -> io::Result<()>
     requires { Within line }
 {
-    let bytes = line.bytes;
-    let len = line.len;
-    output.write_all(&bytes[..len])
+    output.write_all(line.text())
 }

@@ -1,10 +1,12 @@
 -- Numbers in range and above zero; an end of the exponential's argument is in range, and from 2^-57 to 64. Assumes nothing.
-use Rattle.std.proofs.Common.{◌≡◌, ℕ, suc, ◌+◌, ◌-◌, ◌*◌, ◌/◌, ◌%◌, ◌^◌, ◌<◌, ◌≤◌, false, refl, inr, le_of_lt, mul-le-mul_right, div-lt_iff_lt-mul, le-div_iff_mul-le, arith, lit≤, pow_pos, pow_mono, pow-add}
+use Rattle.std.proofs.Common.{◌≡◌, ℕ, suc, ◌+◌, ◌-◌, ◌*◌, ◌%◌, ◌^◌, ◌≤◌, false, refl, inl, inr, le_of_lt, mul-le-mul_right, arith, lit≤, pow_pos, pow_mono, pow-add}
+use Rattle.std.specs.Prelude.{Option, None, Some, IfSome}
+use Rattle.std.specs.Option.{unwrap_or}
 use Rattle.exact.specs.Fraction.{nat, parts, ◌≼◌, ◌≺◌}
 use Rattle.exact.proofs.Fraction.Order.{≼_refl, ≼-≈-trans}
 use Rattle.exact.proofs.Fraction.Parts.{parts-≼, parts-nat}
 use Rattle.sheet.specs.declared.Sheet.{Sheet}
-use Rattle.sheet.specs.Number.{bias, value, Digits}
+use Rattle.sheet.specs.Number.{bias, value, plain_zero, Digits}
 use Rattle.sheet.specs.Range.{InRange, Width}
 use Rattle.sheet.proofs.Live.{bias-is, one_shl}
 use Rattle.sheet.proofs.Operations.{digits-pos}
@@ -13,11 +15,19 @@ use Rattle.bracket.specs.Held.{Held}
 use Rattle.series.specs.Terms.{Factor}
 use Rattle.marks.specs.Argument.{Argument}
 
+-- what holds of a number that was found, and of the one in its place
+pub found_or : {P Q : Sheet → Type 0} {r : Sheet} (o : Option Sheet) (d : Sheet) → r ≡ unwrap_or o d → IfSome o P → ((s : Sheet) → P s → Q s) → Q d → Q r
+found_or None d e h f q = rw e q
+found_or (Some s) d e h f q = rw e (f s h)
+
 -- digits at a place in range
 pub spaced : {v : ℕ} (s : Sheet) → Width v → Digits v s.m → 182144 ≤ s.e → s.e ≤ 342144 → InRange v s
 spaced s w d a b =
     let z = bias-is in
     record { width = w; within = record { normal = inr d; exponent = inr (omega arith, omega arith) } }
+
+pub nothing : {v : ℕ} → Width v → InRange v plain_zero
+nothing w = record { width = w; within = record { normal = inl refl; exponent = inl refl } }
 
 pub positive : (v : ℕ) (s : Sheet) → s.neg ≡ false → Digits v s.m → nat 0 ≺ value s
 positive v s n d = digits-pos s n (let p = pow_pos v in omega (arith, d.low))

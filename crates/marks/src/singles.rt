@@ -44,7 +44,13 @@ pub extern "C" fn marks_single(width: u64, operation: u64, up: u64, list: &[u64]
     let mut total: u64 = 0;
     let (pairs, _) = list.as_chunks::<6>();
     for p in pairs {
-        let r = result(v, operation, up != 0, [p[0], p[1], p[2]], [p[3], p[4], p[5]]);
+        let r = result(
+            v,
+            operation,
+            up != 0,
+            [p[0], p[1], p[2]],
+            [p[3], p[4], p[5]],
+        );
         total = total.wrapping_add(r.m).wrapping_add(r.e);
     }
     total

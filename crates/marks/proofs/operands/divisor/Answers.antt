@@ -1,15 +1,15 @@
 -- `marks::operands::divisor` meets its contract. Assumes nothing.
-use Rattle.marks.proofs.Arguments.{in_range, spaced, positive}
+use Rattle.exact.specs.Fraction.{nat, ◌≺◌}
+use Rattle.sheet.specs.Number.{value}
+use Rattle.sheet.specs.Range.{InRange}
+use Rattle.marks.specs.Argument.{Placed}
+use Rattle.marks.proofs.Arguments.{found_or, spaced, positive, in_range}
 use Rattle.marks.proofs.operands.divisor.Goals as goal
 
-pub returns-in-Some : goal.returns-in-Some
-returns-in-Some c =
-    let s = c.in-Some.s in
-    let h = c.in-Some.ensures in
-    (spaced s c.requires h.1 h.2 h.3, positive c.args.v s h.0 h.1)
-
-pub returns-in-None : goal.returns-in-None
-returns-in-None c =
-    let s = c.one.result in
-    let h = c.one.ensures in
-    (in_range c.args.v s h, positive c.args.v s h.plain h.digits)
+pub returns : goal.returns
+returns c =
+    let v = c.args.v in
+    let one = c.one.ensures in
+    found_or {Q = λ s. InRange v s × (nat 0 ≺ value s)} _ _ c.unwrap_or.ensures c.placed.ensures
+    (λ s (h : Placed v _ _ _ s). (spaced s c.requires h.digits h.low h.high, positive v s h.sign h.digits))
+    (in_range v c.one.result one, positive v c.one.result one.plain one.digits)

@@ -1,6 +1,9 @@
 -- `marks::operands::operand` meets its contract. Assumes nothing.
-use Rattle.marks.proofs.Arguments.{spaced}
+use Rattle.sheet.specs.Range.{InRange}
+use Rattle.marks.specs.Argument.{Placed}
+use Rattle.marks.proofs.Arguments.{found_or, spaced, nothing}
 use Rattle.marks.proofs.operands.operand.Goals as goal
 
-pub returns-in-Some : goal.returns-in-Some
-returns-in-Some c = let h = c.in-Some.ensures in spaced c.in-Some.s c.requires h.1 h.2 h.3
+pub returns : goal.returns
+returns c =
+    found_or {Q = InRange c.args.v} _ _ c.unwrap_or.ensures c.placed.ensures (λ s (h : Placed c.args.v _ _ _ s). spaced s c.requires h.digits h.low h.high) (nothing c.requires)
