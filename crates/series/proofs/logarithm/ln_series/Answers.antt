@@ -10,12 +10,6 @@ use Rattle.series.proofs.ExponentialSteps.{held-as}
 use Rattle.series.proofs.LogarithmSteps.{ln_power-first, ln_sum-first, power-next, quotient-next, sum_next, square-held, power_held, quotient-held, sum_held, total-held, last-power, last_sum, last-quotient, total-is, answer_is}
 use Rattle.series.proofs.logarithm.ln_series.Goals as goal
 
-pub product-square-requires : goal.product-square-requires
-product-square-requires c = (c.requires.held, c.requires.held)
-
-pub share-sum-requires : goal.share-sum-requires
-share-sum-requires c = (c.requires.held, omega arith)
-
 pub loop-j-init : goal.loop-j-init
 loop-j-init c =
     let z = c.args.z in
@@ -29,9 +23,6 @@ product-power-requires c =
     let a = c.requires in
     let l = c.loop-j in
     (power_held a l.j l.auto.j-end (ap (λ (s : Powers). s.power) l.invariant), square-held a c.product-square.ensures)
-
-pub overflow_add-j : goal.overflow_add-j
-overflow_add-j c = omega arith
 
 pub share-requires : goal.share-requires
 share-requires c =
@@ -73,9 +64,6 @@ add_last-total-requires c =
       sum_held a 20 (le_refl 20) (last_sum n z c.loop-j.auto.j-end l i),
       quotient-held a 20 (le_refl 20) (last-quotient n z c.loop-j.auto.j-end l i c.share-2.ensures),
     )
-
-pub whole-requires : goal.whole-requires
-whole-requires c = (c.requires.held.lo.width, lit≤ tt)
 
 pub product-requires : goal.product-requires
 product-requires c =

@@ -1,14 +1,10 @@
 -- `series::logarithm::ln_two` meets its contract: it is the series at 1/3. Assumes nothing.
 use mathlib.Core.Path.{sym, ap, ◌∙◌, subst}
 use Prim.Native.Nat.{suc}
-use lib.Dec.{lit≤}
 use Rattle.series.specs.Logarithm.{ln_series, ln_two}
 use Rattle.series.specs.Powers.{Argument}
 use Rattle.series.proofs.Arguments.{third-argument}
 use Rattle.series.proofs.logarithm.ln_two.Goals as goal
-
-pub given_ratio-requires : goal.given_ratio-requires
-given_ratio-requires c = (c.requires, lit≤ tt, lit≤ tt)
 
 pub ln_series-requires : goal.ln_series-requires
 ln_series-requires c = subst (Argument c.args.v) (sym c.given_ratio.ensures) (third-argument c.requires)

@@ -5,9 +5,6 @@ use Rattle.series.proofs.ExponentialSteps.{held-as}
 use Rattle.series.proofs.RatioSteps.{less-is_held, more-is_held, more-is_above, z_is}
 use Rattle.series.proofs.ratio.ratio_z.Goals as goal
 
-pub whole-one-requires : goal.whole-one-requires
-whole-one-requires c = (c.requires.held.lo.width, lit≤ tt)
-
 pub difference-less-requires : goal.difference-less-requires
 difference-less-requires c = (c.requires.held, held-as c.whole-one.ensures (whole_held c.requires.held.lo.width 1 (lit≤ tt)))
 
