@@ -11,6 +11,7 @@ fn read_rows(text: &[u8], table: &mut [u8; 576]) -> Result<usize, usize>
 {
     let mut at: usize = 0;
     let mut count: usize = 0;
+    // Stays: a turn goes on by the length of the row it read, so the place is no index that a range counts.
     while at < text.len() {
         if count == 64 {
             return Err(65);
