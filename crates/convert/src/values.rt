@@ -5,6 +5,7 @@ ghost use Rattle.convert.specs.Values.{converted_values};
 use super::ConvertFault;
 use term::Fault;
 
+// Stays: C takes an answer as numbers by a choice; the clauses of wb_lengthen and wb_shorten hold them (`ConvertCalled`).
 #[tactic(auto, unfolding(crate::specs::Values::converted_values))]
 pub fn converted_values(answer: Result<usize, ConvertFault>) -> [u64; 3]
     ensures { result ≡ converted_values answer }

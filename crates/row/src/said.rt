@@ -42,6 +42,7 @@ fn power_of(magnitude: u64) -> u64
 }
 
 // The whole quotient, or 0.
+// Stays: 0 is no ten digits, so `good` refuses the row made of it, as the clause `RowOf` of row_of has it; an Option would be turned into a 0 there.
 fn exact(magnitude: u64, unit: u64) -> u64
     requires { 0 < unit }
     ensures { Exact magnitude unit result }

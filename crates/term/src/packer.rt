@@ -52,6 +52,7 @@ fn long_head(term: Term) -> u64
     (((term.c * 1024 + term.factor) * 32 + term.d) * 64 + term.t) * 2 + sign(term.negative)
 }
 
+// Stays: apart from `put_term`, since its head has other fields and is cut elsewhere; the bytes are put by one function.
 // The head and the magnitude's first six bits fill four bytes; its other 54 and ten spare bits are a word.
 pub fn put_long(out: &mut [u8], at: usize, term: Term) -> usize
     requires { (at + 12 ≤ length out.old) × WithinLong term }

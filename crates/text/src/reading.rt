@@ -1,5 +1,5 @@
 // Reading: the rows of a text, packed one behind the other.
-ghost use Rattle.std.specs.Prelude.{◌≡◌, length};
+ghost use Rattle.std.specs.Prelude.{◌≡◌};
 ghost use Rattle.text.specs.Reads.{Checks, ReadSays};
 
 use super::ReadFault;
@@ -7,11 +7,11 @@ use super::ReadFault;
 // The rows of a text: the bytes of their terms, or the line of the first bad one. Each row's term goes behind those before it, into the
 // table of the function's caller.
 fn read_rows(text: &[u8], table: &mut [u8; 576]) -> Result<usize, usize>
-    requires { length table.old ≡ 576 }
     ensures { Checks text.now table.old table.new result }
 {
     let mut at: usize = 0;
     let mut count: usize = 0;
+    // Stays: a turn goes on by the length of the row it read, so the place is no index that a range counts.
     while at < text.len() {
         if count == 64 {
             return Err(65);

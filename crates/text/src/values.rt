@@ -4,6 +4,7 @@ ghost use Rattle.text.specs.Values.{read_values, write_values};
 
 use super::{Fault, ReadFault, WriteFault};
 
+// Stays: C takes an answer as numbers by a choice; the clauses of wb_read_text and wb_write_text hold them (`ReadCalled`, `WriteCalled`).
 #[tactic(auto, unfolding(crate::specs::Values::read_values))]
 pub fn read_values(answer: Result<usize, ReadFault>) -> [u64; 3]
     ensures { result ≡ read_values answer }

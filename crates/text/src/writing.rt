@@ -7,7 +7,7 @@ use super::WriteFault;
 // The text of a table's terms: its length, or the place of the first term that has no spelling. Each term's row goes behind those before it,
 // into the text of the function's caller. 64 rows of at most 26 bytes are 1,664.
 fn spell_terms(table: &[u8], text: &mut [u8; 1664]) -> Result<usize, usize>
-    requires { (length table.now ≤ 576) × (length text.old ≡ 1664) }
+    requires { length table.now ≤ 576 }
     ensures { SpellsOut table.now text.old text.new result }
 {
     let mut at: usize = 0;

@@ -3,4 +3,4 @@ use Rattle.convert.proofs.Loop.{Done}
 use Rattle.convert.proofs.engine.pack_terms.Given as goal
 
 abbrev pub invariant-loop-i : goal.invariant-loop-i
-invariant-loop-i l = Done l.from l.to l.table l.initial.packed l.at l.i l.packed
+invariant-loop-i l = Done l.table.kind l.to l.table.bytes.now l.initial.packed l.at l.i l.packed

@@ -8,11 +8,12 @@ use Rattle.term.specs.Pack.{pack}
 use Rattle.row.specs.Standing.{Reads}
 use Rattle.row.proofs.Length.{row_pos}
 use Rattle.row.proofs.Saying.{good_fields}
+use borrow.Author.Rules.{rules}
 use Rattle.text.proofs.Rows.{passed_none, passed-more, passed-full, passed-bad, passed-empty, passed-end}
 use Rattle.text.proofs.reading.read_rows.Goals as goal
 
 pub loop-at-init : goal.loop-at-init
-loop-at-init c = passed_none _ _ c.requires
+loop-at-init c = passed_none _ _ (search rules)
 
 pub returns-then-count-eq64 : goal.returns-then-count-eq64
 returns-then-count-eq64 c = passed-full c.loop-at.invariant (omega (arith, c.if-count-eq64.true)) c.loop-at-test.true

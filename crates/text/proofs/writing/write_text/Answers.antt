@@ -12,7 +12,7 @@ pub spell_terms-requires : goal.spell_terms-requires
 unfolding by_kind
 spell_terms-requires c =
     let checked : c.check_table.result ≡ Ok c.in_ok-map_err.field-0 = search rules in
-    ((sound-whole 38 _ (answer-sound 38 _ _ (sym c.check_table.ensures.0 ∙ checked)).0).most, refl)
+    (sound-whole 38 _ (answer-sound 38 _ _ (sym c.check_table.ensures.0 ∙ checked)).0).most
 
 pub returns-in_err-n-clause-write_says : goal.returns-in_err-n-clause-write_says
 returns-in_err-n-clause-write_says c =
