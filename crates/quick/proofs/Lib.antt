@@ -11,3 +11,4 @@ pub mod Shared
 pub mod Passing
 pub mod Stated
 pub mod Same
+pub mod Held

@@ -20,6 +20,7 @@ pub use own::{density_check, pair_check, state_sheet};
 pub use slice::ask;
 
 // What is asked: the state sheet; the density check with its target and tolerance; the pair check with its vapour and both tolerances.
+// Stays: an enum and no trait or closures, since `Stated` (specs/Lent.antt), `lent-settled` (proofs/Same.antt) and `LentCalled` (panel) speak of any question.
 #[derive(Clone, Copy)]
 pub enum Question {
     Sheet(State),
@@ -28,6 +29,7 @@ pub enum Question {
 }
 
 // What is replied: that the slice is too short, or what the plain engine answers.
+// Stays: `Short` among the replies, since `reply_number` and `twenty` number it with them.
 #[derive(Clone, Copy)]
 pub enum Reply {
     Short,

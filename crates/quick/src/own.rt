@@ -2,29 +2,32 @@
 ghost use Rattle.std.specs.Prelude.{◌≡◌};
 ghost use Rattle.verdict.specs.Reading.{AnswerNumbers, SheetNumbers};
 ghost use Rattle.verdict.specs.Statement.{StateStated, DensityStated, PairStated};
-ghost use Rattle.quick.specs.Reading.{sheet_in, check_in};
+ghost use Rattle.quick.specs.declared.Reply.TheVariants.{Sheet, Check};
+ghost use Rattle.quick.specs.Reading.{IsSheet, IsCheck};
 
 use crate::slice::ask_own;
 use crate::{Question, Reply};
 use verdict::{Ends, Refusal, Rejection, State, StateSheet};
 
+// The answer in a reply to the state sheet's question.
 fn sheet_in(reply: Reply) -> Result<StateSheet, Refusal>
-    ensures { result ≡ sheet_in reply }
+    requires { IsSheet reply }
+    ensures { reply ≡ Sheet result }
 {
     match reply {
         Reply::Sheet(answer) => answer,
-        Reply::Short => Err(Refusal::Width),
-        Reply::Check(_) => Err(Refusal::Width),
+        _ => unreachable!(),
     }
 }
 
+// The answer in a reply to a check's.
 fn check_in(reply: Reply) -> Result<Ends, Rejection>
-    ensures { result ≡ check_in reply }
+    requires { IsCheck reply }
+    ensures { reply ≡ Check result }
 {
     match reply {
         Reply::Check(answer) => answer,
-        Reply::Short => Err(Rejection::Refused(Refusal::Width)),
-        Reply::Sheet(_) => Err(Rejection::Refused(Refusal::Width)),
+        _ => unreachable!(),
     }
 }
 

@@ -1,13 +1,14 @@
 -- `quick::own::density_check` meets its contract. Assumes nothing.
-use mathlib.Core.Path.{refl, sym, ap, subst, ◌∙◌}
-use Rattle.verdict.specs.Reading.{AnswerNumbers}
-use Rattle.quick.specs.Reading.{check_in, ReplyNumbers}
+use mathlib.Core.Path.{sym, subst, ◌∙◌}
+use Rattle.quick.specs.Reading.{IsCheck}
 use Rattle.quick.specs.Lent.{plain_reply}
+use Rattle.quick.proofs.Held.{check-held}
 use Rattle.quick.proofs.own.density_check.Goals as goal
 
-pub returns : goal.returns
+pub check_in-requires : goal.check_in-requires
 unfolding plain_reply
-returns c =
-    let q = c.ask_own.ensures.value in
-    let e = c.check_in.ensures ∙ ap check_in q.0 in
-    record { density_stated = e; answer_numbers = subst AnswerNumbers (sym e) (subst ReplyNumbers q.0 q.1); table_stays = refl }
+check_in-requires c = subst IsCheck (sym c.ask_own.ensures.value.0) tt
+
+pub returns-clause-density_stated : goal.returns-clause-density_stated
+unfolding plain_reply
+returns-clause-density_stated c = check-held (sym c.check_in.ensures ∙ c.ask_own.ensures.value.0)

@@ -1,48 +1,39 @@
 -- `virial::cards::vapour_card` meets its contract. Assumes nothing.
 use Rattle.std.specs.Prelude.{Err}
+use Rattle.std.proofs.lemmas.Result.{err_from_is_err_and}
 use Prim.Native.Nat.{ℕ}
-use mathlib.Core.Path.{refl, sym, ap, ◌∙◌}
-use native.Mathlib.Omega.{arith}
-use Rattle.term.proofs.Answers.{answer-sound}
-use Rattle.verdict.specs.Steps.{first_failing}
-use Rattle.verdict.proofs.Order.{fails-at, on_pass}
-use Rattle.verdict.proofs.Tests.{passed, failed}
+use mathlib.Core.Path.{◌≡◌, refl, sym, ◌∙◌}
+use mathlib.Core.List.{List}
+use Rattle.kind.specs.Kind.{sound_kind}
+use Rattle.verdict.specs.Steps.{Step, first_failing}
+use Rattle.verdict.specs.Rules.{first_steps, width_step, table_steps}
 use Rattle.verdict.proofs.HandedOut.{zeros-numbers}
-use Rattle.verdict.proofs.Tables.{on_length, on_broken, on_sound}
-use Rattle.verdict.proofs.EitherWidth.{one_less}
-use Rattle.virial.specs.Answers.{card_inputs, card_accepted, card_answer}
+use Rattle.verdict.proofs.Tables.{on_refusal, on_none}
+use Rattle.virial.specs.Reading.{CardAnswer}
+use Rattle.virial.specs.Answers.{card_answer}
 use Rattle.virial.proofs.cards.vapour_card.Goals as goal
 
-pub returns-then-not-sound_width : goal.returns-then-not-sound_width
-unfolding card_answer
-returns-then-not-sound_width c = record { card_stated = sym (fails-at 0 _ _ (failed c.sound_width.ensures c.if-not-sound_width.true)); card_numbers = (zeros-numbers, zeros-numbers, zeros-numbers); table_stays = refl }
+-- 38 is a kind, so 29 is not answered
+known : (w : ℕ) (table : List ℕ) (rest : List (Step CardAnswer)) (last : CardAnswer)
+    → first_failing (first_steps Err w 38 table rest) last ≡ first_failing (width_step Err w (table_steps Err 38 table rest)) last
+unfolding first_failing sound_kind
+known w table rest last = refl
 
-pub overflow_sub-width : goal.overflow_sub-width
-overflow_sub-width c = omega (arith, (one_less _ (passed c.sound_width.ensures c.if-not-sound_width.false)).1)
+pub returns-in_err-setting : goal.returns-in_err-setting
+unfolding card_answer
+returns-in_err-setting c =
+    let p = err_from_is_err_and c.from_residual.result c.from_residual.ensures.1 in
+    rw (p.1, p.2)
+    (record { card_stated = on_refusal Err _ _ _ _ _ _ c.in_err-setting.ensures ∙ known _ _ _ _; card_numbers = (zeros-numbers, zeros-numbers, zeros-numbers); table_stays = refl })
 
 pub screened-requires : goal.screened-requires
-screened-requires c = ((one_less _ (passed c.sound_width.ensures c.if-not-sound_width.false)).0, (answer-sound _ _ _ (sym c.check_table.ensures.0 ∙ c.in-Sound.is)).0)
+screened-requires c = c.in_ok-setting.ensures.2
 
-pub returns-in-Length : goal.returns-in-Length
+pub returns : goal.returns
 unfolding card_answer
-returns-in-Length c = record { card_stated = on_length Err _ _ _ _ (sym c.check_table.ensures.0 ∙ c.in-Length.is) ∙ sym (on_pass _ _ _ (passed c.sound_width.ensures c.if-not-sound_width.false)); card_numbers = (zeros-numbers, zeros-numbers, zeros-numbers); table_stays = refl }
-
-pub returns-in-Broken : goal.returns-in-Broken
-unfolding card_answer
-returns-in-Broken c = record { card_stated = on_broken Err _ _ _ _ _ (sym c.check_table.ensures.0 ∙ c.in-Broken.is) ∙ sym (on_pass _ _ _ (passed c.sound_width.ensures c.if-not-sound_width.false)); card_numbers = (zeros-numbers, zeros-numbers, zeros-numbers); table_stays = refl }
-
-pub returns-in-Sound : goal.returns-in-Sound
-unfolding card_answer
-returns-in-Sound c =
-    let a = c.args in
-    let p = passed c.sound_width.ensures c.if-not-sound_width.false in
-    let table = a.table.now in
-    let t = a.state.temperature in
-    let rho = a.state.density in
-    let sound = (answer-sound _ _ _ (sym c.check_table.ensures.0 ∙ c.in-Sound.is)).0 in record {
-      card_stated = c.screened.ensures.value
-          ∙ ap (λ (n : ℕ). first_failing (card_inputs t rho) (card_accepted n table t rho)) (one_less a.width p).1
-          ∙ sym (on_pass _ _ _ p ∙ on_sound Err _ _ _ _ sound);
+returns c =
+    let s = c.in_ok-setting.ensures in record {
+      card_stated = (rw (s.1, s.3) at c.screened.ensures.value) ∙ sym (on_none Err _ _ _ _ _ s.0) ∙ known _ _ _ _;
       card_numbers = c.screened.ensures.card_numbers;
       table_stays = refl;
     }
