@@ -77,8 +77,9 @@ impl<'a> Asked<'a> {
             temperature,
             density,
         };
-        let answer =
-            verdict::density_check(self.width, self.kind, self.table, state, target, tolerance);
+        let answer = verdict::density_check(
+            self.width, self.kind, self.table, state, target, tolerance,
+        );
         write_values(output, &reading::of_check(answer))
     }
 
@@ -113,14 +114,9 @@ impl<'a> Asked<'a> {
     pub fn each<W: Write>(self, output: &mut W, temperature: f64) -> io::Result<()> {
         self.sheet(output, "state sheet", temperature, 1.0)?;
         self.density(output, "density check", temperature, 1.0, 0.0, 1000000.0)?;
-        self.near(output, "pair check", temperature)
-    }
-
-    // A pair whose densities lie closely about 322.
-    fn near<W: Write>(self, output: &mut W, who: &str, temperature: f64) -> io::Result<()> {
         self.pair(
             output,
-            who,
+            "pair check",
             temperature,
             322.125,
             321.875,

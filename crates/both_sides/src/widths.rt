@@ -1,7 +1,6 @@
 // A width that is neither 32 nor 53 is asked before the table.
-use crate::EASY;
 use crate::asked::Asked;
-use crate::tables;
+use crate::{EASY, tables};
 use std::io;
 use std::io::Write;
 

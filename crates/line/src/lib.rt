@@ -14,6 +14,7 @@ pub use proposal::{Proposal, read_proposal};
 pub use word::{kind_of, width_of};
 
 // A line's bytes stand at the front; the others are 0. No line of five u64s is longer than 97 bytes.
+// Stays: a buffer with its length, since there is no heap; `held` (specs/Line.antt) is a line for any text, so `Within` is no ghost field.
 #[derive(Clone, Copy)]
 pub struct Line {
     pub bytes: [u8; 97],

@@ -23,6 +23,7 @@ fn named(word: &[u8], a: u8, b: u8, first: u64, c: u8, d: u8, second: u64) -> u6
 }
 
 // 0, which is no width, for any word but 32 and 53.
+// Stays: a number and no Option, as `width_of` (specs/Word.antt) says and `width-none` (proofs/Words.antt) proves; the same for the kind.
 pub fn width_of(word: &[u8]) -> u64
     ensures { result ≡ width_of word.now }
 {

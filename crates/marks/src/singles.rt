@@ -4,6 +4,7 @@ ghost use Rattle.sheet.specs.Range.{Width};
 use crate::operands::{below, divisor, operand};
 use sheet::Sheet;
 
+// Stays: crate words has the same enum for its programs, and reads input; what C links here has no input.
 #[derive(Clone, Copy)]
 enum Operation {
     Sum,

@@ -27,6 +27,7 @@ fn read<R: Read>(input: &mut R, words: &mut [u64]) -> io::Result<bool> {
 }
 
 // The next record of N words, if it is there whole.
+// Stays: each program has its loop over records; one loop that takes a closure was tried, and no bound `FnMut` may name a const parameter.
 pub fn record<const N: usize, R: Read>(input: &mut R) -> io::Result<Option<[u64; N]>> {
     let mut words = [0u64; N];
     Ok(read(input, &mut words)?.then_some(words))
