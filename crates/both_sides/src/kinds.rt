@@ -1,4 +1,5 @@
 // Kind 58: temperatures, densities, tables, terms, the ceiling and targets on both sides of its own limits; and kinds that are neither.
+// Stays: functions of the names that `states` and `tables` have: the cases are others, and each list is asked in the order of its lines.
 use crate::EASY;
 use crate::asked::Asked;
 use crate::tables::{empty, filled};

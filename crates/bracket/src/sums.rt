@@ -17,6 +17,7 @@ pub fn sum(v: u64, a: Bracket, b: Bracket) -> Bracket
 }
 
 // The lower end less the upper is the least difference, the upper less the lower the greatest.
+// Stays: apart from the sum: one function for both would take the operation, and stay a call as in `greatest_grown`.
 pub fn difference(v: u64, a: Bracket, b: Bracket) -> Bracket
     requires { Held v a × Held v b }
     ensures { result ≡ minus (suc v) (ends a) (ends b) }

@@ -21,6 +21,7 @@ pub enum ConvertFault {
     NoRoom,
 }
 
+// Stays: a call for each direction, as C has them (wb_lengthen, wb_shorten); both are one function at its two kinds.
 // A table of kind 38 as one of kind 58: each of its terms has a new form, so 22 does not occur. Answers how many bytes were written,
 // as its converse does.
 pub fn lengthen(table: &[u8], out: &mut [u8]) -> Result<usize, ConvertFault>

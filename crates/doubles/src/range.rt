@@ -1,5 +1,6 @@
 // Which f64s the inputs accept by the kind of table, and comparisons, by exact value. Each contract is an equation with a rule of specs/.
 // Stays: one function a quantity: each has a rule of its own to meet (`accepted_density` and its like), which names the same limits.
+// Stays: `finite x` in contracts: C gives any f64, and a type for finite ones would be made and taken apart again at each comparison.
 ghost use Rattle.std.specs.Prelude.{◌≡◌, not, T};
 ghost use Rattle.std.specs.Float.Ieee.Scale.{finite};
 ghost use Rattle.exact.specs.Fraction.{nat, leq};

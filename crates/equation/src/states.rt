@@ -1,5 +1,6 @@
 // Pressure, stiffness and Gibbs gap of states by the sums over a table, and the gaps of pressure. One state takes one pass over the table, a
 // pair two: the sums are handed in. Inputs of any kind are taken.
+// Stays: accepted t and rho each by itself: most of what is here and in `inputs` takes one of the two alone.
 ghost use Rattle.std.specs.Prelude.{◌≡◌, suc, T};
 ghost use Rattle.sheet.specs.Range.{Width};
 ghost use Rattle.kind.specs.Kind.{widest};

@@ -1,4 +1,5 @@
 // The kinds of table: which there are, and how long their packed terms are. The limits of the inputs by kind stand in specs/Kind.antt too.
+// Stays: a kind is a number, which C gives (wb_state); what is promised by kind is promised for every number (accepts_temperature, check_table).
 #![tactic(auto)]
 
 ghost use Rattle.std.specs.Prelude.{◌≡◌};

@@ -3,6 +3,7 @@
 // 0 the number, 1 the place, 2 to 5 the ends in order as f64 bits; anything that the answer does not have is 0.
 // `slice` has the same checks with a lent slice of terms, `card` the vapour card, `typed` the calls on tables typed as text, `converted` those
 // that turn one kind of table into the other.
+// Stays: numbers for width, kind and choice, a value a call, parameters one by one, and a call for each question: the C interface.
 #![tactic(auto)]
 
 mod card;

@@ -2,6 +2,7 @@
 // here. They are a crate of their own, because the compiler puts a function into its caller where it has only one: beside the loops of
 // `marks` the exponential would be a function by itself, and both would be slower. The table's bytes are lent, and only read.
 // A choice is the panel's: 0 the number, 1 the place, 2 to 5 the ends in order as f64 bits; anything that the answer does not have is 0.
+// Stays: numbers, and parameters one by one: C calls both.
 #![tactic(auto)]
 
 ghost use Rattle.std.specs.Prelude.{◌≡◌, get_or};

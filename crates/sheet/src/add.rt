@@ -1,5 +1,6 @@
 // The sum and the difference of two sheet numbers, rounded once. An addend that lies far below still moves the result: it is word of what
 // was cut. Assumes nothing.
+// Stays: `Addends v a b` in contracts: a struct of the two would be copied whole on the way, which `total` avoids.
 ghost use Rattle.std.specs.Prelude.{◌≡◌, not, suc, ◌<◌, ◌≤◌};
 ghost use Rattle.exact.specs.Fraction.{◌⊕◌, ◌⊖◌};
 ghost use Rattle.sheet.specs.Number.{value};

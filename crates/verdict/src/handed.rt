@@ -1,4 +1,5 @@
 // Brackets as they are handed out, and the tests of a verdict on their ends.
+// Stays: `Handy b` in contracts: laws of size show it of what the equation gives, and a type for it would wrap each bracket once more.
 ghost use Rattle.std.specs.Prelude.{◌≡◌, not, T};
 ghost use Rattle.std.specs.Float.Ieee.Scale.{finite};
 ghost use Rattle.verdict.specs.Rules.{handed_out, under_ceiling, gap_passes, pushes_back};

@@ -1,4 +1,5 @@
 // The widths of sheet numbers.
+// Stays: a width is a number, which C gives (wb_state); state_sheet and both checks take any number and settle it.
 ghost use Rattle.std.specs.Prelude.{◌≡◌};
 ghost use Rattle.verdict.specs.Rules.{sound_width};
 

@@ -136,6 +136,7 @@ impl TryFrom<u64> for Operation {
 }
 
 // The f64 of a bit pattern; every NaN's pattern gives the one NaN.
+// Stays: `line` has the same for the bench program; it leans on lent alone, and nothing of the library leans on this crate.
 pub fn double(bits: u64) -> f64
     ensures { result ≡ of_bits binary64 bits }
 {
