@@ -3,15 +3,8 @@
 use native.Mathlib.Omega.{arith}
 use mathlib.Core.Path.{◌≡◌}
 use Prim.Native.Nat.{◌+◌, ◌-◌}
-use lib.Pow.{pow_pos}
 use Rattle.term.proofs.Fields.{field_room, field_join}
 use Rattle.term.proofs.bits.field.Goals as goal
-
-pub more-value-requires : goal.more-value-requires
-more-value-requires c = omega (arith, pow_pos (64 - c.min-n.result))
-
-pub loop-i-init : goal.loop-i-init
-loop-i-init c = omega arith
 
 pub more-value-requires-in-loop-i : goal.more-value-requires-in-loop-i
 more-value-requires-in-loop-i c =
