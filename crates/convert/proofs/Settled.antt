@@ -8,25 +8,19 @@ use mathlib.Core.List.{List, ◌++◌}
 use borrow.Author.Tests.{ltb-true, ltb-false}
 use lib.Dec.{ltb}
 use lib.ListN.{length, drop}
-use Rattle.term.specs.declared.Table.{Table}
-use Rattle.term.specs.declared.Table.TheVariants.{Sound, Length, Broken}
+use Rattle.std.specs.Prelude.{Result, Ok, Err}
+use Rattle.term.specs.declared.Fault.{Fault}
+use Rattle.term.specs.declared.Fault.TheVariants.{Length, Broken}
 use Rattle.term.specs.Packed.{count_terms}
 use Rattle.term.specs.Sound.{table_answer}
-use Rattle.convert.specs.declared.Converted.{Converted}
-use Rattle.convert.specs.declared.Converted.TheVariants.{Written, WrongLength, BrokenTerm, NoOldForm, NoRoom}
+use Rattle.convert.specs.declared.ConvertFault.{ConvertFault}
+use Rattle.convert.specs.declared.ConvertFault.TheVariants.{Unsound, NoOldForm, NoRoom}
 use Rattle.convert.specs.Converts.{converted, FormBelow, FirstWithout, SoundTable, Says}
 use Rattle.convert.proofs.Forms.{form_long}
 
 -- the check of a table gives one answer
-module _ {answer : Table} where
-  sound-length : {n : ℕ} → answer ≡ Sound n → answer ≡ Length → ⊥
-  sound-length s l = let z : ◌≡◌ {A = ℕ} 0 1 = cc in omega arith
-
-  sound-broken : {n place : ℕ} → answer ≡ Sound n → answer ≡ Broken place → ⊥
-  sound-broken s b = let z : ◌≡◌ {A = ℕ} 0 1 = cc in omega arith
-
-  length_broken : {place : ℕ} → answer ≡ Length → answer ≡ Broken place → ⊥
-  length_broken l b = let z : ◌≡◌ {A = ℕ} 0 1 = cc in omega arith
+unsound : {answer : Result ℕ Fault} {n : ℕ} {fault : Fault} → answer ≡ Ok n → answer ≡ Err fault → ⊥
+unsound s f = cc
 
 module _ {from to : ℕ} {table : List ℕ} where
   formed_not_without : {n place : ℕ} → FormBelow from to table n → (q : FirstWithout from to table place) → q.k < n → ⊥
@@ -45,63 +39,54 @@ pub new_form : (from : ℕ) (table : List ℕ) (place : ℕ) → FirstWithout fr
 new_form from table place q = false≢true (sym q.here ∙ form_long _ 58 refl)
 
 module _ (from to : ℕ) (table before after : List ℕ) where
-  -- 1, where the table's length is none of its kind
-  pub says_1 : (r : Converted) → Says from to table before after r → table_answer from table ≡ Length → (r ≡ WrongLength) × (after ≡ before)
-  says_1 (Written n) s h = absurd (sound-length s.0 h)
-  says_1 WrongLength s h = (refl, s.1)
-  says_1 (BrokenTerm place) s h = absurd (length_broken h s.0)
-  says_1 (NoOldForm place) s h = absurd (sound-length s.0 h)
-  says_1 NoRoom s h = absurd (sound-length s.0 h)
+  -- 1, where the table's length is none of its kind, and 2 with its place, where a term breaks a rule
+  says_fault : (r : Result ℕ ConvertFault) → Says from to table before after r → (fault : Fault) → table_answer from table ≡ Err fault → (r ≡ Err (Unsound fault)) × (after ≡ before)
+  says_fault (Ok n) s fault h = absurd (unsound s.0 h)
+  says_fault (Err (Unsound other)) s fault h = let e = s.0 in (cc, s.1)
+  says_fault (Err (NoOldForm place)) s fault h = absurd (unsound s.0 h)
+  says_fault (Err NoRoom) s fault h = absurd (unsound s.0 h)
 
-  -- 2 with its place, where a term breaks a rule
-  pub says_2 : (r : Converted) → Says from to table before after r → (place : ℕ) → table_answer from table ≡ Broken place → (r ≡ BrokenTerm place) × (after ≡ before)
-  says_2 (Written n) s place h = absurd (sound-broken s.0 h)
-  says_2 WrongLength s place h = absurd (length_broken s.0 h)
-  says_2 (BrokenTerm other) s place h = let e = s.0 in let same : other ≡ place = cc in (ap BrokenTerm same, s.1)
-  says_2 (NoOldForm other) s place h = absurd (sound-broken s.0 h)
-  says_2 NoRoom s place h = absurd (sound-broken s.0 h)
+  pub says_1 : (r : Result ℕ ConvertFault) → Says from to table before after r → table_answer from table ≡ Err Length → (r ≡ Err (Unsound Length)) × (after ≡ before)
+  says_1 r s h = says_fault r s Length h
+
+  pub says_2 : (r : Result ℕ ConvertFault) → Says from to table before after r → (place : ℕ) → table_answer from table ≡ Err (Broken place) → (r ≡ Err (Unsound (Broken place))) × (after ≡ before)
+  says_2 r s place h = says_fault r s (Broken place) h
 
   -- 22 with its place, where a term of a sound table has no form
-  pub says_22 : (r : Converted) → Says from to table before after r → (place : ℕ) → SoundTable from table → FirstWithout from to table place → (r ≡ NoOldForm place) × (after ≡ before)
-  says_22 (Written n) s place h q = absurd (formed_not_without s.1.form q q.within)
-  says_22 WrongLength s place h q = absurd (sound-length h s.0)
-  says_22 (BrokenTerm other) s place h q = absurd (sound-broken h s.0)
-  says_22 (NoOldForm other) s place h q = (ap NoOldForm (without_one s.1 q), s.2)
-  says_22 NoRoom s place h q = absurd (formed_not_without s.1.form q q.within)
+  pub says_22 : (r : Result ℕ ConvertFault) → Says from to table before after r → (place : ℕ) → SoundTable from table → FirstWithout from to table place → (r ≡ Err (NoOldForm place)) × (after ≡ before)
+  says_22 (Ok n) s place h q = absurd (formed_not_without s.1.form q q.within)
+  says_22 (Err (Unsound fault)) s place h q = absurd (unsound h s.0)
+  says_22 (Err (NoOldForm other)) s place h q = (ap (λ p. Err (NoOldForm p)) (without_one s.1 q), s.2)
+  says_22 (Err NoRoom) s place h q = absurd (formed_not_without s.1.form q q.within)
 
   -- 18, where all terms of a sound table have one and the converted table is longer than the buffer
-  pub says_18 : (r : Converted) → Says from to table before after r → SoundTable from table → FormBelow from to table (count_terms from table)
-      → length before < length (converted from to table) → (r ≡ NoRoom) × (after ≡ before)
-  says_18 (Written n) s h q l = absurd (omega (arith, s.1.front.room))
-  says_18 WrongLength s h q l = absurd (sound-length h s.0)
-  says_18 (BrokenTerm other) s h q l = absurd (sound-broken h s.0)
-  says_18 (NoOldForm other) s h q l = absurd (formed_not_without q s.1 s.1.within)
-  says_18 NoRoom s h q l = (refl, s.2)
+  pub says_18 : (r : Result ℕ ConvertFault) → Says from to table before after r → SoundTable from table → FormBelow from to table (count_terms from table)
+      → length before < length (converted from to table) → (r ≡ Err NoRoom) × (after ≡ before)
+  says_18 (Ok n) s h q l = absurd (omega (arith, s.1.front.room))
+  says_18 (Err (Unsound fault)) s h q l = absurd (unsound h s.0)
+  says_18 (Err (NoOldForm other)) s h q l = absurd (formed_not_without q s.1 s.1.within)
+  says_18 (Err NoRoom) s h q l = (refl, s.2)
 
   -- 0, where it is not
-  pub says_0 : (r : Converted) → Says from to table before after r → SoundTable from table → FormBelow from to table (count_terms from table)
+  pub says_0 : (r : Result ℕ ConvertFault) → Says from to table before after r → SoundTable from table → FormBelow from to table (count_terms from table)
       → length (converted from to table) ≤ length before
-      → (r ≡ Written (length (converted from to table))) × (after ≡ converted from to table ++ drop (length (converted from to table)) before)
-  says_0 (Written n) s h q l = (ap Written s.1.counted, s.1.front.bytes)
-  says_0 WrongLength s h q l = absurd (sound-length h s.0)
-  says_0 (BrokenTerm other) s h q l = absurd (sound-broken h s.0)
-  says_0 (NoOldForm other) s h q l = absurd (formed_not_without q s.1 s.1.within)
-  says_0 NoRoom s h q l = absurd (omega (arith, s.1.longer))
+      → (r ≡ Ok (length (converted from to table))) × (after ≡ converted from to table ++ drop (length (converted from to table)) before)
+  says_0 (Ok n) s h q l = (ap Ok s.1.counted, s.1.front.bytes)
+  says_0 (Err (Unsound fault)) s h q l = absurd (unsound h s.0)
+  says_0 (Err (NoOldForm other)) s h q l = absurd (formed_not_without q s.1 s.1.within)
+  says_0 (Err NoRoom) s h q l = absurd (omega (arith, s.1.longer))
 
-pub settled : (from to : ℕ) (table before after after' : List ℕ) (r r' : Converted) → Says from to table before after r → Says from to table before after' r' → (r ≡ r') × (after ≡ after')
-settled from to table before after after' (Written n) r' p q =
+pub settled : (from to : ℕ) (table before after after' : List ℕ) (r r' : Result ℕ ConvertFault) → Says from to table before after r → Says from to table before after' r' → (r ≡ r') × (after ≡ after')
+settled from to table before after after' (Ok n) r' p q =
     let other = says_0 from to table before after' r' q p.0 p.1.form p.1.front.room in
-    let mine = says_0 from to table before after (Written n) p p.0 p.1.form p.1.front.room in
+    let mine = says_0 from to table before after (Ok n) p p.0 p.1.form p.1.front.room in
     (mine.0 ∙ sym other.0, mine.1 ∙ sym other.1)
-settled from to table before after after' WrongLength r' p q =
-    let other = says_1 from to table before after' r' q p.0 in
+settled from to table before after after' (Err (Unsound fault)) r' p q =
+    let other = says_fault from to table before after' r' q fault p.0 in
     (sym other.0, p.1 ∙ sym other.1)
-settled from to table before after after' (BrokenTerm place) r' p q =
-    let other = says_2 from to table before after' r' q place p.0 in
-    (sym other.0, p.1 ∙ sym other.1)
-settled from to table before after after' (NoOldForm place) r' p q =
+settled from to table before after after' (Err (NoOldForm place)) r' p q =
     let other = says_22 from to table before after' r' q place p.0 p.1 in
     (sym other.0, p.2 ∙ sym other.1)
-settled from to table before after after' NoRoom r' p q =
+settled from to table before after after' (Err NoRoom) r' p q =
     let other = says_18 from to table before after' r' q p.0 p.1.form p.1.longer in
     (sym other.0, p.2 ∙ sym other.1)

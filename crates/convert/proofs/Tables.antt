@@ -19,8 +19,8 @@ use Rattle.term.proofs.Terms.{terms-length, terms-at}
 use Rattle.term.proofs.Reading.{terms-pack}
 use Rattle.term.proofs.Repacked.{table_back}
 use Rattle.term.proofs.SoundTables.{AllSound, pack_table-sound}
-use Rattle.convert.specs.declared.Converted.{Converted}
-use Rattle.convert.specs.declared.Converted.TheVariants.{Written}
+use Rattle.std.specs.Prelude.{Result, Ok}
+use Rattle.convert.specs.declared.ConvertFault.{ConvertFault}
 use Rattle.convert.specs.Form.{OldForm, has_form}
 use Rattle.convert.specs.Converts.{converted, lengthened, shortened, FormBelow, Says}
 use Rattle.convert.proofs.Forms.{old-form, form_long, form_plain, form_within, form_sound}
@@ -116,12 +116,12 @@ module _ (table : List ℕ) (sound : sound_table 58 table ≡ true) (form : Form
   shortened-back = converted-back 58 38 table sound form
 
 -- "every valid old table returns the same": `long` is the buffer that a table was lengthened into, and its first n bytes are shortened
-pub there_and_back : (table buffer long out₀ out : List ℕ) (n : ℕ) (r : Converted) → Bytes table → Says 38 58 table buffer long (Written n) → Says 58 38 (take n long) out₀ out r
-    → length table ≤ length out₀ → (r ≡ Written (length table)) × (out ≡ table ++ drop (length table) out₀)
+pub there_and_back : (table buffer long out₀ out : List ℕ) (n : ℕ) (r : Result ℕ ConvertFault) → Bytes table → Says 38 58 table buffer long (Ok n) → Says 58 38 (take n long) out₀ out r
+    → length table ≤ length out₀ → (r ≡ Ok (length table)) × (out ≡ table ++ drop (length table) out₀)
 there_and_back table buffer long out₀ out n r small s w room =
     let t = s.1 in
     let sound = (answer-sound 38 table (count_terms 38 table) s.0).0 in
     let w' : Says 58 38 (lengthened table) out₀ out r = subst (λ x. Says 58 38 x out₀ out r) (front-taken t.front n (sym t.counted)) w in
     let back : shortened (lengthened table) ≡ table = lengthened-back table sound small in
     let a = says_0 58 38 (lengthened table) out₀ out r w' (sound-answer 58 (lengthened table) (lengthened-sound table sound)) (old_forms table sound) (omega (arith, ap length back)) in
-    (a.0 ∙ ap (λ x. Written (length x)) back, a.1 ∙ ap (λ x. x ++ drop (length x) out₀) back)
+    (a.0 ∙ ap (λ x. Ok (length x)) back, a.1 ∙ ap (λ x. x ++ drop (length x) out₀) back)

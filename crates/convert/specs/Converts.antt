@@ -1,14 +1,11 @@
 -- What a conversion from one kind of table to another promises, answer by answer (document 02, h). Assumes nothing.
-use Rattle.std.specs.Prelude.{ℕ, ◌+◌, ◌<◌, ◌≡◌, true, false, List, length}
+use Rattle.std.specs.Prelude.{ℕ, ◌+◌, ◌<◌, ◌≡◌, true, false, List, length, Result, Ok, Err}
 use Rattle.lent.specs.Front.{Front}
-use Rattle.term.specs.declared.Table.TheVariants.{Sound, Length, Broken}
 use Rattle.term.specs.Packed.{term_at, terms, count_terms}
 use Rattle.term.specs.Tables.{pack_table}
 use Rattle.term.specs.Sound.{table_answer}
-use Rattle.convert.specs.declared.Converted.{Converted}
-use Rattle.convert.specs.declared.Converted.TheVariants.{Written, WrongLength, BrokenTerm, NoOldForm, NoRoom}
-use Rattle.convert.specs.declared.engine.Packed.{Packed}
-use Rattle.convert.specs.declared.engine.Packed.TheVariants.{Bytes, Place}
+use Rattle.convert.specs.declared.ConvertFault.{ConvertFault}
+use Rattle.convert.specs.declared.ConvertFault.TheVariants.{Unsound, NoOldForm, NoRoom}
 use Rattle.convert.specs.Form.{has_form}
 
 -- the terms of a table of one kind, packed as the other kind's
@@ -44,17 +41,16 @@ pub record NoRoomFor (from to : ℕ) (table before : List ℕ) : Type 0 where
   pub form : FormBelow from to table (count_terms from table)  -- else it is 22
   pub longer : length before < length (converted from to table)
 
-abbrev pub Packs : (from to : ℕ) → List ℕ → List ℕ → List ℕ → Packed → Type 0
-Packs from to table before after (Bytes n) = Turned from to table before n after
-Packs from to table before after (Place place) = FirstWithout from to table place
+abbrev pub Packs : (from to : ℕ) → List ℕ → List ℕ → List ℕ → Result ℕ ℕ → Type 0
+Packs from to table before after (Ok n) = Turned from to table before n after
+Packs from to table before after (Err place) = FirstWithout from to table place
 
 abbrev pub SoundTable : ℕ → List ℕ → Type 0
-SoundTable from table = table_answer from table ≡ Sound (count_terms from table)
+SoundTable from table = table_answer from table ≡ Ok (count_terms from table)
 
 -- the call: the bytes written; 1 and 2 as the table's check gives them; 22 with its place; or 18. A refusal has changed no byte
-abbrev pub Says : (from to : ℕ) → List ℕ → List ℕ → List ℕ → Converted → Type 0
-Says from to table before after (Written n) = SoundTable from table × Turned from to table before n after
-Says from to table before after WrongLength = (table_answer from table ≡ Length) × (after ≡ before)
-Says from to table before after (BrokenTerm place) = (table_answer from table ≡ Broken place) × (after ≡ before)
-Says from to table before after (NoOldForm place) = SoundTable from table × FirstWithout from to table place × (after ≡ before)
-Says from to table before after NoRoom = SoundTable from table × NoRoomFor from to table before × (after ≡ before)
+abbrev pub Says : (from to : ℕ) → List ℕ → List ℕ → List ℕ → Result ℕ ConvertFault → Type 0
+Says from to table before after (Ok n) = SoundTable from table × Turned from to table before n after
+Says from to table before after (Err (Unsound fault)) = (table_answer from table ≡ Err fault) × (after ≡ before)
+Says from to table before after (Err (NoOldForm place)) = SoundTable from table × FirstWithout from to table place × (after ≡ before)
+Says from to table before after (Err NoRoom) = SoundTable from table × NoRoomFor from to table before × (after ≡ before)

@@ -8,30 +8,22 @@ ghost use Rattle.convert.specs.Form.{old_form, has_form};
 
 use term::Term;
 
+#[tactic(auto, unfolding(crate::specs::Form::old_form))]
 fn old_form(term: Term) -> bool
     ensures { result ≡ old_form term }
 {
-    let factor = term::plain_factor(term.c);
-    if 3 < term.c {
-        false
-    } else if term.factor != factor {
-        false
-    } else if term.d == 0 {
-        false
-    } else if 15 < term.d {
-        false
-    } else {
-        term.t <= 24
-    }
+    term.c <= 3
+        && term.factor == term::plain_factor(term.c)
+        && 0 < term.d
+        && term.d <= 15
+        && term.t <= 24
 }
 
+#[tactic(auto, unfolding(crate::specs::Form::has_form))]
 pub fn has_form(to: u64, term: Term) -> bool
     ensures { result ≡ has_form to term }
 {
-    if to == 58 {
-        return true;
-    }
-    old_form(term)
+    to == 58 || old_form(term)
 }
 
 pub fn put_form(to: u64, out: &mut [u8], at: usize, term: Term) -> usize

@@ -12,19 +12,18 @@ mod values;
 
 pub use values::converted_values;
 
-// What a conversion answers: the bytes written; 1; 2 with the place of the first broken term; 22 with the place of the first term that has no
-// old form; or 18, no room.
+// Why a table is not converted: 1, or 2 with the place of the first broken term, as the table's check finds; 22 with the place of the first
+// term that has no old form; or 18, no room.
 #[derive(Clone, Copy)]
-pub enum Converted {
-    Written(usize),
-    WrongLength,
-    BrokenTerm(usize),
+pub enum ConvertFault {
+    Unsound(term::Fault),
     NoOldForm(usize),
     NoRoom,
 }
 
-// A table of kind 38 as one of kind 58: each of its terms has a new form, so 22 does not occur.
-pub fn lengthen(table: &[u8], out: &mut [u8]) -> Converted
+// A table of kind 38 as one of kind 58: each of its terms has a new form, so 22 does not occur. Answers how many bytes were written,
+// as its converse does.
+pub fn lengthen(table: &[u8], out: &mut [u8]) -> Result<usize, ConvertFault>
     ensures says { Says 38 58 table.now out.old out.new result }
     ensures table_stays { table.exit.now ≡ table.entry.now }
 {
@@ -32,7 +31,7 @@ pub fn lengthen(table: &[u8], out: &mut [u8]) -> Converted
 }
 
 // A table of kind 58 as one of kind 38.
-pub fn shorten(table: &[u8], out: &mut [u8]) -> Converted
+pub fn shorten(table: &[u8], out: &mut [u8]) -> Result<usize, ConvertFault>
     ensures says { Says 58 38 table.now out.old out.new result }
     ensures table_stays { table.exit.now ≡ table.entry.now }
 {

@@ -4,8 +4,10 @@ use Prim.Native.Nat.{ℕ, ◌≤◌}
 use mathlib.Core.Path.{◌≡◌, sym, ap, ◌∙◌}
 use mathlib.Core.List.{List}
 use lib.ListN.{get_or, get_or-eq_default}
-use Rattle.convert.specs.declared.Converted.{Converted}
-use Rattle.convert.specs.declared.Converted.TheVariants.{Written, WrongLength, BrokenTerm, NoOldForm, NoRoom}
+use Rattle.std.specs.Prelude.{Result, Ok, Err}
+use Rattle.term.specs.declared.Fault.TheVariants.{Length, Broken}
+use Rattle.convert.specs.declared.ConvertFault.{ConvertFault}
+use Rattle.convert.specs.declared.ConvertFault.TheVariants.{Unsound, NoOldForm, NoRoom}
 use Rattle.convert.specs.Values.{converted_values}
 use Rattle.convert.proofs.Settled.{settled}
 use Rattle.panel.specs.Converted.{ConvertCalled}
@@ -16,10 +18,10 @@ convert_call_settled from to table before after after' choice r r' p q =
     let same = settled from to table before after after' p.answer q.answer p.says q.says in
     (p.value ∙ ap (λ a. get_or (converted_values a) choice 0) same.0 ∙ sym q.value, same.1)
 
-pub convert_no_more : (answer : Converted) (choice : ℕ) → 3 ≤ choice → get_or (converted_values answer) choice 0 ≡ 0
+pub convert_no_more : (answer : Result ℕ ConvertFault) (choice : ℕ) → 3 ≤ choice → get_or (converted_values answer) choice 0 ≡ 0
 unfolding converted_values
-convert_no_more (Written n) choice h = get_or-eq_default (converted_values (Written n)) 0 h
-convert_no_more WrongLength choice h = get_or-eq_default (converted_values WrongLength) 0 h
-convert_no_more (BrokenTerm place) choice h = get_or-eq_default (converted_values (BrokenTerm place)) 0 h
-convert_no_more (NoOldForm place) choice h = get_or-eq_default (converted_values (NoOldForm place)) 0 h
-convert_no_more NoRoom choice h = get_or-eq_default (converted_values NoRoom) 0 h
+convert_no_more (Ok n) choice h = get_or-eq_default (converted_values (Ok n)) 0 h
+convert_no_more (Err (Unsound Length)) choice h = get_or-eq_default (converted_values (Err (Unsound Length))) 0 h
+convert_no_more (Err (Unsound (Broken place))) choice h = get_or-eq_default (converted_values (Err (Unsound (Broken place)))) 0 h
+convert_no_more (Err (NoOldForm place)) choice h = get_or-eq_default (converted_values (Err (NoOldForm place))) 0 h
+convert_no_more (Err NoRoom) choice h = get_or-eq_default (converted_values (Err NoRoom)) 0 h

@@ -4,10 +4,10 @@ ghost use Rattle.std.specs.Prelude.{◌≡◌, get_or};
 ghost use Rattle.convert.specs.Values.{converted_values};
 ghost use Rattle.panel.specs.Converted.{ConvertCalled};
 
-use convert::Converted;
+use convert::ConvertFault;
 
 // The answer's value at a choice.
-fn chosen(answer: Converted, choice: u64) -> u64
+fn chosen(answer: Result<usize, ConvertFault>, choice: u64) -> u64
     ensures { result ≡ get_or (converted_values answer) choice 0 }
 {
     let values = convert::converted_values(answer);

@@ -3,11 +3,15 @@ use Prim.Native.Nat.{ℕ, zero, suc, ◌+◌, ◌-◌, ◌^◌, ◌≤◌, ◌<�
 use native.Mathlib.Nat.{pow-zero, pow-suc, pow-le-pow_right}
 use native.Mathlib.Omega.{arith}
 use mathlib.Core.Path.{◌≡◌, sym, ap, ◌∙◌}
-use mathlib.Core.Bool.{true, false, false≢true}
-use mathlib.Core.List.{List}
+use mathlib.Core.Bool.{Bool, false≢true}
+use mathlib.Core.List.{List, ◌++◌}
 use borrow.Author.Tests.{eq-eqb, ne_eqb}
-use lib.ListN.{length, get_or, drop, take, length-append, length-drop, take-append-drop, get_or-append}
-use lib.Seq.{get_or-drop, get_or-take, drop-drop, length-take-le, ext_get_or}
+use lib.ListN.{length, get_or, drop, take, length-append, length-drop}
+use lib.Seq.{get_or-drop, drop-drop}
+use lib.Dec.{eqb}
+use Rattle.std.specs.Cmp.Lexicographic.{pointwise}
+use Rattle.std.proofs.lemmas.Slice.Eq.{starts_is}
+use Rattle.std.proofs.lemmas.Bool.Decides.{Decides-eqb}
 use Rattle.row.specs.Standing.{Stands}
 use Rattle.row.specs.Guess.{figure, number_of, power_of}
 
@@ -33,27 +37,13 @@ number-below s (suc k) = rw pow-suc (omega (arith, number-below s k, figure-belo
 pub number-few : (s : List ℕ) (k : ℕ) → k < 10 → number_of s k < 10 ^ 9
 number-few s k h = omega (arith, number-below s k, pow-le-pow_right {n = 10} (omega arith) {i = k} {j = 9} (omega arith))
 
-module _ (s bytes : List ℕ) (at len : ℕ) (room : len ≤ length bytes) where
-  pub stands_yes : at + len ≤ length s → ((k : ℕ) → k < len → get_or s (at + k) 0 ≡ get_or bytes k 0) → Stands s at (take len bytes) true
-  stands_yes h same =
-      let n : length (take len bytes) ≡ len = length-take-le len bytes room in
-      let m : length (take len (drop at s)) ≡ len = length-take-le len (drop at s) (omega (arith, length-drop at s)) in
-      let front : take len (drop at s) ≡ take len bytes =
-      ext_get_or 0 (take len (drop at s)) (take len bytes) (m ∙ sym n) (λ i l.
-      let below : i < len = omega arith in
-      rw (get_or-take len (drop at s) i 0 below, get_or-take len bytes i 0 below, get_or-drop at s i 0) (same i below)) in
-      record {
-        yes = λ _. (sym (take-append-drop len (drop at s)) ∙ rw (front, n, drop-drop), omega arith);
-        no = λ e. absurd (false≢true (sym e));
-      }
-
-  pub stands_no : (i : ℕ) → i < len → (at + i < length s → get_or s (at + i) 0 ≡ get_or bytes i 0 → ⊥) → Stands s at (take len bytes) false
-  stands_no i l differ =
-      record {
-        yes = λ e. absurd (false≢true e);
-        no = λ _ rest e.
-            let n : length (take len bytes) ≡ len = length-take-le len bytes room in
-            let long : length s - at ≡ len + length rest = sym (length-drop at s) ∙ ap length e ∙ length-append (take len bytes) rest ∙ ap (λ k. k + length rest) n in
-            differ (omega arith)
-            (sym (get_or-drop at s i 0) ∙ ap (λ x. get_or x i 0) e ∙ get_or-append (take len bytes) rest 0 i (omega arith) ∙ get_or-take len bytes i 0 l);
-      }
+-- bytes with which the text behind a place begins, or not
+pub stands_when : (s bytes : List ℕ) (at : ℕ) (r : Bool) → at ≤ length s → r ≡ pointwise eqb bytes (take (length bytes) (drop at s)) → Stands s at bytes r
+stands_when s bytes at r h e =
+    let is = starts_is Decides-eqb (drop at s) bytes r e in
+    record {
+      yes = λ y.
+          let here : drop at s ≡ bytes ++ drop (at + length bytes) s = is.0 y ∙ ap (λ x. bytes ++ x) (drop-drop (length bytes) at s) in
+          (here, omega (arith, length-drop at s, ap length (is.0 y), length-append bytes (drop (length bytes) (drop at s))));
+      no = λ n rest k. false≢true (sym n ∙ is.1 rest k);
+    }

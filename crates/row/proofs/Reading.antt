@@ -11,7 +11,7 @@ use lib.Seq.{sets-eq, length-sets, take-append_seam}
 use Rattle.lent.specs.Put.{Put}
 use Rattle.term.proofs.Rules.{both}
 use Rattle.row.specs.declared.Row.{Row}
-use Rattle.row.specs.declared.Found.TheVariants.{At, Bad}
+use Rattle.std.specs.Prelude.{Some, None}
 use Rattle.row.specs.Row.{Good, good_row, row_text}
 use Rattle.row.specs.Standing.{Reads, Stands}
 use Rattle.row.specs.Guess.{guess_of}
@@ -61,7 +61,7 @@ put_front-take {text} {bytes} {len} p h =
 
 module _ (s : List ℕ) (at : ℕ) (row : Row) where
   pub read_yes : {bytes : List ℕ} {len : ℕ} → Good row → Put (replicate 32 0) 0 (row_text row) bytes len → len ≤ 32
-      → Stands s at (take len bytes) true → Reads s at (At row (at + len))
+      → Stands s at (take len bytes) true → Reads s at (Some (row, at + len))
   read_yes {bytes} {len} g p h st =
       let t = put_front-take p h in
       let y = rw t.0 at st in
@@ -74,13 +74,13 @@ module _ (s : List ℕ) (at : ℕ) (row : Row) where
       }
 
   pub read_no : {bytes : List ℕ} {len : ℕ} → row ≡ guess_of (drop at s) → Put (replicate 32 0) 0 (row_text row) bytes len → len ≤ 32
-      → Stands s at (take len bytes) false → Reads s at Bad
+      → Stands s at (take len bytes) false → Reads s at None
   read_no {bytes} {len} e p h st r rest g here =
       let same : r ≡ row = sym (guess_only (drop at s) r rest g here) ∙ sym e in
       let y = rw (put_front-take p h).0 at st in
       y.no refl rest (here ∙ ap (λ x. row_text x ++ rest) same)
 
-  pub read_none : row ≡ guess_of (drop at s) → good_row row ≡ false → Reads s at Bad
+  pub read_none : row ≡ guess_of (drop at s) → good_row row ≡ false → Reads s at None
   read_none e bad r rest g here =
       let same : r ≡ row = sym (guess_only (drop at s) r rest g here) ∙ sym e in
       false≢true (sym bad ∙ ap good_row (sym same) ∙ good_test r g)

@@ -1,8 +1,6 @@
 -- What stands at a place of a text: a row, or none. Assumes nothing.
-use Rattle.std.specs.Prelude.{ℕ, ◌+◌, ◌≤◌, ◌<◌, ◌≡◌, Bool, true, false, List, ◌++◌, length, get_or, drop}
+use Rattle.std.specs.Prelude.{ℕ, ◌+◌, ◌≤◌, ◌≡◌, Bool, true, false, List, ◌++◌, length, drop, Option, Some, None}
 use Rattle.row.specs.declared.Row.{Row}
-use Rattle.row.specs.declared.Found.{Found}
-use Rattle.row.specs.declared.Found.TheVariants.{At, Bad}
 use Rattle.row.specs.Row.{Good, row_text}
 
 -- no row stands at the front of these bytes
@@ -17,16 +15,11 @@ pub record RowAt (s : List ℕ) (at : ℕ) (row : Row) (next : ℕ) : Type 0 whe
   pub within : next ≤ length s
 
 -- what reading at a place finds
-abbrev pub Reads : List ℕ → ℕ → Found → Type 0
-Reads s at (At row next) = RowAt s at row next
-Reads s at Bad = NoRow (drop at s)
+abbrev pub Reads : List ℕ → ℕ → Option (Row × ℕ) → Type 0
+Reads s at (Some found) = RowAt s at found.0 found.1
+Reads s at None = NoRow (drop at s)
 
--- whether a byte stands at a place of a list, where the list has a place
-pub record Holds (s : List ℕ) (at byte : ℕ) (r : Bool) : Type 0 where
-  pub yes : r ≡ true → (at < length s) × (get_or s at 0 ≡ byte)
-  pub no : r ≡ false → at < length s → get_or s at 0 ≡ byte → ⊥
-
--- whether some bytes stand there
+-- whether some bytes stand at a place of a list
 pub record Stands (s : List ℕ) (at : ℕ) (bytes : List ℕ) (r : Bool) : Type 0 where
   pub yes : r ≡ true → (drop at s ≡ bytes ++ drop (at + length bytes) s) × (at + length bytes ≤ length s)
   pub no : r ≡ false → (rest : List ℕ) → drop at s ≡ bytes ++ rest → ⊥

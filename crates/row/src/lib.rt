@@ -25,36 +25,23 @@ pub struct Row {
     pub power: u64,
 }
 
-// What stands at a place of a text: a row and the place behind it, or no row.
-#[derive(Clone, Copy)]
-pub enum Found {
-    At(Row, usize),
-    Bad,
-}
-
 // Whether the fields keep the rules.
+#[tactic(auto, unfolding(crate::specs::Row::good_row))]
 pub fn good(row: Row) -> bool
     ensures { result ≡ good_row row }
 {
-    if 4 <= row.c {
-        false
-    } else if row.d == 0 {
-        false
-    } else if 16 <= row.d {
-        false
-    } else if 24 < row.t {
-        false
-    } else if row.ten < 1_000_000_000 {
-        false
-    } else if 10_000_000_000 <= row.ten {
-        false
-    } else {
-        row.power <= 7
-    }
+    row.c < 4
+        && 0 < row.d
+        && row.d < 16
+        && row.t <= 24
+        && 1_000_000_000 <= row.ten
+        && row.ten < 10_000_000_000
+        && row.power <= 7
 }
 
-// The row at a place, which is far below the largest number: a text table has at most 1,664 bytes.
-pub fn read_row(text: &[u8], at: usize) -> Found
+// The row at a place and the place behind it, if a row stands there. The place is far below the largest number: a text table has at most
+// 1,664 bytes.
+pub fn read_row(text: &[u8], at: usize) -> Option<(Row, usize)>
     requires { (at ≤ 4096) × (at ≤ length text.now) }
     ensures { Reads text.now at result }
 {
@@ -62,9 +49,9 @@ pub fn read_row(text: &[u8], at: usize) -> Found
     if good(row) {
         let mut line = [0u8; 32];
         let len = writer::put_row(&mut line, row);
-        if reader::stands(text, at, &line, len) {
-            return Found::At(row, at + len);
+        if reader::stands(text, at, &line[..len]) {
+            return Some((row, at + len));
         }
     }
-    Found::Bad
+    None
 }

@@ -1,30 +1,24 @@
 // The fields that a row at a place would have, read off without refusing a byte; and whether some bytes stand at a place of a text.
-ghost use Rattle.std.specs.Prelude.{◌≡◌, ◌+◌, ◌<◌, ◌≤◌, length, get_or, drop, take};
+ghost use Rattle.std.specs.Prelude.{◌≡◌, ◌+◌, ◌<◌, ◌≤◌, length, get_or, drop};
 ghost use Rattle.row.specs.Guess.{figure, short_small, small_of, past, sign_of, front_past, number_of, power_of, guess_of};
-ghost use Rattle.row.specs.Standing.{Holds, Stands};
+ghost use Rattle.row.specs.Standing.{Stands};
 
 use super::Row;
 
-fn wide(byte: u8) -> u64
-    ensures { result ≡ byte }
-{
-    byte as u64
-}
-
 // The byte at a place, 0 behind the end.
-fn byte_at(text: &[u8], at: usize) -> u64
+fn byte_at(text: &[u8], at: usize) -> u8
     ensures { result ≡ get_or text.now at 0 }
 {
-    if at < text.len() { wide(text[at]) } else { 0 }
+    text.get(at).copied().unwrap_or(0)
 }
 
 // The digit that the byte there is, if it is one.
+#[tactic(auto, unfolding(crate::specs::Guess::figure))]
 fn figure_at(text: &[u8], at: usize) -> u64
     ensures value { result ≡ figure (get_or text.now at 0) }
     ensures upper_bound { result < 10 }
 {
-    let byte = byte_at(text, at);
-    if byte < 48 { 0 } else { (byte - 48) % 10 }
+    u64::from(byte_at(text, at).saturating_sub(b'0') % 10)
 }
 
 // Whether a whole number there has one digit: a space stands behind it.
@@ -32,7 +26,7 @@ fn short_at(text: &[u8], at: usize) -> bool
     requires { at ≤ 8192 }
     ensures { result ≡ short_small (drop at text.now) }
 {
-    byte_at(text, at + 1) == 32
+    byte_at(text, at + 1) == b' '
 }
 
 // A whole number of one digit or two.
@@ -60,7 +54,7 @@ fn past_at(text: &[u8], at: usize) -> usize
 fn minus_at(text: &[u8], at: usize) -> bool
     ensures { result ≡ sign_of (drop at text.now) }
 {
-    byte_at(text, at) == 45
+    byte_at(text, at) == b'-'
 }
 
 // Where the ten digits begin, behind a minus, the 0 and the point.
@@ -77,10 +71,8 @@ fn ten_at(text: &[u8], at: usize) -> u64
     ensures { result ≡ number_of (drop at text.now) 10 }
 {
     let mut value: u64 = 0;
-    let mut i: usize = 0;
-    while i < 10 {
+    for i in 0..10 {
         value = value * 10 + figure_at(text, at + i);
-        i += 1;
     }
     value
 }
@@ -90,9 +82,8 @@ fn power_at(text: &[u8], at: usize) -> u64
     requires { at ≤ 8192 }
     ensures { result ≡ power_of (drop at text.now) }
 {
-    if byte_at(text, at + 1) == 45 {
-        let figure = figure_at(text, at + 2);
-        if figure < 6 { 6 - figure } else { 0 }
+    if byte_at(text, at + 1) == b'-' {
+        6u64.saturating_sub(figure_at(text, at + 2))
     } else {
         6 + figure_at(text, at + 1)
     }
@@ -117,28 +108,10 @@ pub fn guess(text: &[u8], at: usize) -> Row
     }
 }
 
-// Whether a byte stands at a place; behind the end none does.
-fn holds(text: &[u8], at: usize, byte: u8) -> bool
-    ensures { Holds text.now at byte result }
+// Whether a line stands at a place of the text.
+pub fn stands(text: &[u8], at: usize, line: &[u8]) -> bool
+    requires { at ≤ length text.now }
+    ensures { Stands text.now at line.now result }
 {
-    if at < text.len() {
-        text[at] == byte
-    } else {
-        false
-    }
-}
-
-// Whether the first `len` bytes of a line stand at a place of the text.
-pub fn stands(text: &[u8], at: usize, line: &[u8; 32], len: usize) -> bool
-    requires { (at ≤ 4096) × (at ≤ length text.now) × (len ≤ 32) × (len ≤ length line.now) }
-    ensures { Stands text.now at (take len line.now) result }
-{
-    let mut i: usize = 0;
-    while i < len {
-        if !holds(text, at + i, line[i]) {
-            return false;
-        }
-        i += 1;
-    }
-    true
+    text[at..].starts_with(line)
 }

@@ -26,32 +26,23 @@ fn scaled(ten: u64, power: u64) -> u64
     requires { (ten < 10 ^ 10) × (power ≤ 9) }
     ensures { result ≡ ten * 10 ^ power }
 {
-    let mut value = ten;
-    let mut i: u64 = 0;
-    while i < power {
-        value *= 10;
-        i += 1;
-    }
-    value
+    ten * 10_u64.pow(power as u32)
 }
 
 // The first power at which ten digits are enough.
 fn power_of(magnitude: u64) -> u64
     ensures { Power magnitude result }
 {
-    let mut limit: u64 = 10_000_000_000;
-    let mut power: u64 = 0;
-    while power < 7 {
-        if magnitude < limit {
-            return power;
+    for power in 0..7 {
+        if magnitude < 10_u64.pow(10 + power) {
+            return u64::from(power);
         }
-        limit *= 10;
-        power += 1;
     }
-    power
+    7
 }
 
 // The whole quotient, or 0.
+// Stays: 0 is no ten digits, so `good` refuses the row made of it, as the clause `RowOf` of row_of has it; an Option would be turned into a 0 there.
 fn exact(magnitude: u64, unit: u64) -> u64
     requires { 0 < unit }
     ensures { Exact magnitude unit result }

@@ -4,22 +4,14 @@ ghost use Rattle.lent.specs.Put.{Put};
 ghost use Rattle.row.specs.Row.{Good, spaced, front, digits, tail, row_text};
 
 use super::Row;
-
-// A byte.
-fn put(out: &mut [u8; 32], at: usize, byte: u8) -> usize
-    requires { at < 32 }
-    ensures { Put out.old at (byte ∷ []) out.new result }
-{
-    out[at] = byte;
-    at + 1
-}
+use lent::{put_byte, put_bytes};
 
 // A digit.
 fn put_digit(out: &mut [u8; 32], at: usize, digit: u64) -> usize
     requires { (at < 32) × (digit < 10) }
     ensures { Put out.old at ((48 + digit) ∷ []) out.new result }
 {
-    put(out, at, b'0' + digit as u8)
+    put_byte(out, at, b'0' + digit as u8)
 }
 
 // A whole number and a space.
@@ -30,11 +22,11 @@ fn put_spaced(out: &mut [u8; 32], at: usize, n: u64) -> usize
 {
     if n < 10 {
         let a = put_digit(out, at, n);
-        return put(out, a, b' ');
+        return put_byte(out, a, b' ');
     }
     let a = put_digit(out, at, n / 10);
     let b = put_digit(out, a, n % 10);
-    put(out, b, b' ')
+    put_byte(out, b, b' ')
 }
 
 // A minus where needed, and "0.".
@@ -44,12 +36,10 @@ fn put_front(out: &mut [u8; 32], at: usize, negative: bool) -> usize
     ensures upper_bound { result ≤ at + 3 }
 {
     if negative {
-        let a = put(out, at, b'-');
-        let b = put(out, a, b'0');
-        return put(out, b, b'.');
+        put_bytes(out, at, b"-0.")
+    } else {
+        put_bytes(out, at, b"0.")
     }
-    let a = put(out, at, b'0');
-    put(out, a, b'.')
 }
 
 // The last k digits of n.
@@ -71,14 +61,14 @@ fn put_tail(out: &mut [u8; 32], at: usize, power: u64) -> usize
     ensures put { Put out.old at (tail power) out.new result }
     ensures upper_bound { result ≤ at + 4 }
 {
-    let a = put(out, at, b'e');
+    let a = put_byte(out, at, b'e');
     if power < 6 {
-        let b = put(out, a, b'-');
+        let b = put_byte(out, a, b'-');
         let c = put_digit(out, b, 6 - power);
-        return put(out, c, b'\n');
+        return put_byte(out, c, b'\n');
     }
     let b = put_digit(out, a, power - 6);
-    put(out, b, b'\n')
+    put_byte(out, b, b'\n')
 }
 
 // The whole row at the line's front.

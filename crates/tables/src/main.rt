@@ -6,7 +6,7 @@ use std::env::FillError;
 use std::io;
 use std::io::{Read, Write};
 use std::rt::Env;
-use text::{ReadAnswer, WriteAnswer};
+use text::{Fault, ReadFault, WriteFault};
 
 fn main(rt: HostRuntime) -> io::Result<()> {
     let mut input = rt.stdin();
@@ -38,11 +38,10 @@ fn read<R: Read, W: Write>(rt: &impl Eprint, input: &mut R, output: &mut W) -> i
     let mut text = [0u8; 1665];
     let length = intake::fill(input, &mut text)?;
     let mut terms = [0u8; 576];
-    let answer = text::read_text(&text[..length], &mut terms);
-    match answer {
-        ReadAnswer::Read(n) => output.write_all(&terms[..n]),
-        ReadAnswer::BadRow(line) => refuse_line(rt, line as u64),
-        ReadAnswer::NoRoom => eprintln!(rt; "refused, 18, there is no room"),
+    match text::read_text(&text[..length], &mut terms) {
+        Ok(n) => output.write_all(&terms[..n]),
+        Err(ReadFault::BadRow(line)) => refuse_line(rt, line),
+        Err(ReadFault::NoRoom) => eprintln!(rt; "refused, 18, there is no room"),
     }
 }
 
@@ -51,23 +50,22 @@ fn write<R: Read, W: Write>(rt: &impl Eprint, input: &mut R, output: &mut W) -> 
     let mut terms = [0u8; 577];
     let length = intake::fill(input, &mut terms)?;
     let mut text = [0u8; 1664];
-    let answer = text::write_text(&terms[..length], &mut text);
-    match answer {
-        WriteAnswer::Written(n) => output.write_all(&text[..n]),
-        WriteAnswer::WrongLength => {
+    match text::write_text(&terms[..length], &mut text) {
+        Ok(n) => output.write_all(&text[..n]),
+        Err(WriteFault::Unsound(Fault::Length)) => {
             eprintln!(rt; "refused, 1, a table has 9 to 576 bytes, in nines")
         }
-        WriteAnswer::BrokenTerm(place) => {
+        Err(WriteFault::Unsound(Fault::Broken(place))) => {
             eprintln!(rt; "refused, 2, term {place} breaks a rule")
         }
-        WriteAnswer::NoSpelling(place) => {
+        Err(WriteFault::NoSpelling(place)) => {
             eprintln!(rt; "refused, 17, term {place} has no spelling")
         }
-        WriteAnswer::TooLong => eprintln!(rt; "refused, 18, there is no room"),
+        Err(WriteFault::TooLong) => eprintln!(rt; "refused, 18, there is no room"),
     }
 }
 
-fn refuse_line(rt: &impl Eprint, line: u64) -> io::Result<()> {
+fn refuse_line(rt: &impl Eprint, line: usize) -> io::Result<()> {
     if line < 65 {
         eprintln!(rt; "refused, 16, line {line} is no row of a table")
     } else {

@@ -1,12 +1,13 @@
 -- What the packing of a term cites: a number's bytes one by one, and a term as some bytes and a word. Assumes nothing.
-use Prim.Native.Nat.{ℕ, zero, suc, ◌+◌, ◌-◌, ◌*◌, ◌/◌, ◌%◌, ◌^◌, ◌<◌}
+use Prim.Native.Nat.{ℕ, zero, suc, ◌+◌, ◌-◌, ◌*◌, ◌/◌, ◌%◌, ◌^◌, ◌≤◌, ◌<◌}
 use native.Mathlib.Omega.{arith}
 use mathlib.Core.Path.{◌≡◌, refl, sym, ap, ap₂, ◌∙◌}
 use mathlib.Core.Bool.{Bool, true, false}
-use mathlib.Core.List.{List, [], ◌∷◌, ◌++◌}
-use lib.ListN.{set}
+use mathlib.Core.List.{◌∷◌, ◌++◌}
+use lib.ListN.{drop, take}
+use Rattle.std.specs.Int.{to_be_bytes}
+use Rattle.std.proofs.Common.{w64}
 use lib.Pow.{pow-add, high, shr-shr}
-use Rattle.lent.specs.Put.{Put}
 use Rattle.term.specs.declared.Term.{Term}
 use Rattle.term.specs.Pieces.{wide, joined}
 use Rattle.term.specs.Pack.{bytes_of, pieces, sign_bit, head_of, pack}
@@ -14,17 +15,22 @@ use Rattle.term.specs.Long.{long_pieces, long_head, pack_long}
 use Rattle.term.specs.Bounds.{WithinFields, WithinLong}
 use Rattle.term.proofs.Joined.{above}
 
-pub bytes_none : (n x : ℕ) → n ≡ 0 → bytes_of n x ≡ []
-unfolding bytes_of
-bytes_none zero x e = refl
-bytes_none (suc n) x e = absurd (omega arith)
+whole : (x : ℕ) → x / 1 ≡ x
+whole x = omega arith
 
-pub bytes_more : (n x : ℕ) → 0 < n → x / 2 ^ (8 * (n - 1)) % 256 ∷ bytes_of (n - 1) x ≡ bytes_of n x
+-- the last n of a number's eight bytes, as std has them
+pub last-bytes : (n x : ℕ) → n ≤ 8 → take n (drop (8 - n) (to_be_bytes w64 x)) ≡ bytes_of n x
 unfolding bytes_of
-bytes_more zero x h = absurd (omega arith)
-bytes_more (suc n) x h =
-    let e : suc n - 1 ≡ n = omega arith in
-    rw e
+last-bytes zero x h = refl
+last-bytes (suc zero) x h = rw (whole x)
+last-bytes (suc (suc zero)) x h = rw (whole x)
+last-bytes (suc (suc (suc zero))) x h = rw (whole x)
+last-bytes (suc (suc (suc (suc zero)))) x h = rw (whole x)
+last-bytes (suc (suc (suc (suc (suc zero))))) x h = rw (whole x)
+last-bytes (suc (suc (suc (suc (suc (suc zero)))))) x h = rw (whole x)
+last-bytes (suc (suc (suc (suc (suc (suc (suc zero))))))) x h = rw (whole x)
+last-bytes (suc (suc (suc (suc (suc (suc (suc (suc zero)))))))) x h = rw (whole x)
+last-bytes (suc (suc (suc (suc (suc (suc (suc (suc (suc n))))))))) x h = absurd (omega arith)
 
 -- what stands above the bytes does not count
 pub bytes_low : (n over x : ℕ) → bytes_of n (over * 2 ^ (8 * n) + x) ≡ bytes_of n x
@@ -79,7 +85,3 @@ pack-long term head w e =
     let word : ℕ = term.magnitude % 18014398509481984 * 1024 in
     let all : top * 2 ^ 64 + word ≡ joined (long_pieces term) = omega arith in
     sym (bytes_word 4 top word (omega arith)) ∙ ap (bytes_of 12) all
-
--- one byte put
-pub put_one : (l : List ℕ) (i byte : ℕ) → Put l i (byte ∷ []) (set l i byte) (i + 1)
-put_one l i byte = record { bytes = refl; reached = refl }

@@ -31,6 +31,7 @@ pub fn field(bytes: &[u8], first: usize, count: usize) -> u64
 {
     let n = (8 - first % 8).min(count);
     let mut value = more(bytes, 0, first, n);
+    // Stays: a range with a step of eight would lose the place where the whole bytes end, which the last piece begins at.
     let mut i = n;
     while 8 <= count - i {
         value = more(bytes, value, first + i, 8);

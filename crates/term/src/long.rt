@@ -5,6 +5,7 @@ ghost use Rattle.term.specs.Long.{long_from, spare_bits};
 use super::{Term, reader};
 
 // The k-th term.
+// Stays: apart from `plain_at`, since each term has other fields, of other widths, at other places, as the two documents list them.
 pub fn long_at(table: &[u8], k: usize) -> Term
     requires { (12 * k + 12 ≤ length table.now) × (length table.now ≤ 768) }
     ensures { result ≡ long_from table.now (8 * (12 * k)) }

@@ -12,18 +12,13 @@ fn put_number(out: &mut [u8], at: usize, n: usize, number: u64) -> usize
     requires { (at + n ≤ length out.old) × (n ≤ 8) }
     ensures { Put out.old at (bytes_of n number) out.new result }
 {
-    if n == 0 {
-        return at;
-    }
-    let rest = n - 1;
-    out[at] = ((number >> (8 * rest)) % 256) as u8;
-    put_number(out, at + 1, rest, number)
+    lent::put_bytes(out, at, &number.to_be_bytes()[8 - n..])
 }
 
 fn sign(negative: bool) -> u64
     ensures { (result ≡ sign_bit negative) × (result < 2) }
 {
-    if negative { 1 } else { 0 }
+    u64::from(negative)
 }
 
 // The twelve bits before the magnitude: c, d, t and the sign.
@@ -57,6 +52,7 @@ fn long_head(term: Term) -> u64
     (((term.c * 1024 + term.factor) * 32 + term.d) * 64 + term.t) * 2 + sign(term.negative)
 }
 
+// Stays: apart from `put_term`, since its head has other fields and is cut elsewhere; the bytes are put by one function.
 // The head and the magnitude's first six bits fill four bytes; its other 54 and ten spare bits are a word.
 pub fn put_long(out: &mut [u8], at: usize, term: Term) -> usize
     requires { (at + 12 ≤ length out.old) × WithinLong term }

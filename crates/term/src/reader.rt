@@ -8,19 +8,21 @@ pub struct Reader<'a> {
     pub bit: usize,
 }
 
-// A reader at a bit of the table.
-pub fn new<'a>(table: &'a [u8], bit: usize) -> Reader<'a>
-    ensures { (result.table ≡ table.entry) × (result.bit ≡ bit) }
-{
-    Reader { table, bit }
-}
+impl<'a> Reader<'a> {
+    // A reader at a bit of the table.
+    pub fn new(table: &'a [u8], bit: usize) -> Self
+        ensures { (result.table ≡ table.entry) × (result.bit ≡ bit) }
+    {
+        Reader { table, bit }
+    }
 
-// The field of `count` bits at the reader's place.
-pub fn take<'a>(reader: Reader<'a>, count: usize) -> u64
-    requires { Within reader.table.now reader.bit count }
-    ensures { result ≡ field reader.entry.table.now reader.entry.bit count }
-{
-    super::bits::field(reader.table, reader.bit, count)
+    // The field of `count` bits at the reader's place.
+    pub fn take(self, count: usize) -> u64
+        requires { Within self.table.now self.bit count }
+        ensures { result ≡ field self.entry.table.now self.entry.bit count }
+    {
+        super::bits::field(self.table, self.bit, count)
+    }
 }
 
 // The same over a plain slice and place: who calls it sees no reader.
@@ -28,5 +30,5 @@ pub fn read_field(table: &[u8], bit: usize, count: usize) -> u64
     requires { Within table.now bit count }
     ensures { result ≡ field table.now bit count }
 {
-    take(new(table, bit), count)
+    Reader::new(table, bit).take(count)
 }

@@ -20,10 +20,9 @@ use Rattle.term.proofs.Reading.{terms-pack}
 use Rattle.term.proofs.Repacked.{table_back}
 use Rattle.row.specs.declared.Row.{Row}
 use Rattle.row.proofs.Saying.{good_fields, good_sound}
-use Rattle.text.specs.declared.ReadAnswer.{ReadAnswer}
-use Rattle.text.specs.declared.ReadAnswer.TheVariants.{Read}
-use Rattle.text.specs.declared.WriteAnswer.{WriteAnswer}
-use Rattle.text.specs.declared.WriteAnswer.TheVariants.{Written}
+use Rattle.std.specs.Prelude.{Result, Ok}
+use Rattle.text.specs.declared.ReadFault.{ReadFault}
+use Rattle.text.specs.declared.WriteFault.{WriteFault}
 use Rattle.text.specs.Table.{AllGood, rows_text, terms_of, packed, Spells}
 use Rattle.text.specs.Reads.{ReadSays}
 use Rattle.text.specs.Writes.{Spelling, SoundTable, WriteSays}
@@ -58,8 +57,8 @@ module _ (rows : List Row) (g : AllGood rows) where
   packed-spelling = record { good = g; said = sym packed-terms }
 
 -- writing what was read gives the same text: `table` is the buffer that was read into, and its first n bytes are written
-pub write_read : (text buffer table out₀ out : List ℕ) (n : ℕ) (r : WriteAnswer) → ReadSays text buffer table (Read n) → WriteSays (take n table) out₀ out r
-    → length text ≤ length out₀ → (r ≡ Written (length text)) × (out ≡ text ++ drop (length text) out₀)
+pub write_read : (text buffer table out₀ out : List ℕ) (n : ℕ) (r : Result ℕ WriteFault) → ReadSays text buffer table (Ok n) → WriteSays (take n table) out₀ out r
+    → length text ≤ length out₀ → (r ≡ Ok (length text)) × (out ≡ text ++ drop (length text) out₀)
 write_read text buffer table out₀ out n r s w room =
     let rows = s.rows in
     let sp = s.spells in
@@ -67,11 +66,11 @@ write_read text buffer table out₀ out n r s w room =
     let sound : SoundTable (packed rows) = sound-answer 38 (packed rows) (packed-sound rows sp.good sp.some sp.most) in
     let fits : length (rows_text rows) ≤ length out₀ = omega (arith, ap length sp.bytes) in
     let a = write_0 (packed rows) out₀ out r w' rows sound (packed-spelling rows sp.good) fits in
-    (a.0 ∙ ap (λ x. Written (length x)) (sym sp.bytes), a.1 ∙ ap (λ x. x ++ drop (length x) out₀) (sym sp.bytes))
+    (a.0 ∙ ap (λ x. Ok (length x)) (sym sp.bytes), a.1 ∙ ap (λ x. x ++ drop (length x) out₀) (sym sp.bytes))
 
 -- reading what was written gives the same bytes: `text` is the buffer that was written into, and its first n bytes are read
-pub read_write : (table buffer text out₀ out : List ℕ) (n : ℕ) (r : ReadAnswer) → Bytes table → WriteSays table buffer text (Written n) → ReadSays (take n text) out₀ out r
-    → length table ≤ length out₀ → (r ≡ Read (length table)) × (out ≡ table ++ drop (length table) out₀)
+pub read_write : (table buffer text out₀ out : List ℕ) (n : ℕ) (r : Result ℕ ReadFault) → Bytes table → WriteSays table buffer text (Ok n) → ReadSays (take n text) out₀ out r
+    → length table ≤ length out₀ → (r ≡ Ok (length table)) × (out ≡ table ++ drop (length table) out₀)
 unfolding packed terms by_kind
 read_write table buffer text out₀ out n r small s w room =
     let t = s.1 in
@@ -83,4 +82,4 @@ read_write table buffer text out₀ out n r small s w room =
     let sp : Spells (take n text) rows =
     record { some = omega (arith, whole.some); most = omega (arith, whole.most); good = t.spelling.good; bytes = front-taken t.front n (sym t.counted) } in
     let a = read_0 (take n text) out₀ out r w rows sp (omega (arith, ap length back)) in
-    (a.0 ∙ ap (λ x. Read (length x)) back, a.1 ∙ ap (λ x. x ++ drop (length x) out₀) back)
+    (a.0 ∙ ap (λ x. Ok (length x)) back, a.1 ∙ ap (λ x. x ++ drop (length x) out₀) back)

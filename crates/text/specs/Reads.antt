@@ -1,11 +1,9 @@
 -- What reading a text promises, answer by answer (02 c). Assumes nothing.
-use Rattle.std.specs.Prelude.{ℕ, ◌<◌, ◌≡◌, List, length}
+use Rattle.std.specs.Prelude.{ℕ, ◌<◌, ◌≡◌, List, length, Result, Ok, Err}
 use Rattle.lent.specs.Front.{Front}
 use Rattle.row.specs.declared.Row.{Row}
-use Rattle.text.specs.declared.reading.Checked.{Checked}
-use Rattle.text.specs.declared.reading.Checked.TheVariants.{Bytes, Line}
-use Rattle.text.specs.declared.ReadAnswer.{ReadAnswer}
-use Rattle.text.specs.declared.ReadAnswer.TheVariants.{Read, BadRow, NoRoom}
+use Rattle.text.specs.declared.ReadFault.{ReadFault}
+use Rattle.text.specs.declared.ReadFault.TheVariants.{BadRow, NoRoom}
 use Rattle.text.specs.Table.{packed, Spells, FirstBad}
 
 -- the text is a table, and the n bytes of its packed terms are at the buffer's front; behind them it is as before
@@ -21,12 +19,12 @@ pub record NoRoomFor (text before : List ℕ) : Type 0 where
   pub spells : Spells text rows
   pub longer : length before < length (packed rows)
 
-abbrev pub Checks : List ℕ → List ℕ → List ℕ → Checked → Type 0
-Checks text before after (Bytes n) = Taken text before n after
-Checks text before after (Line line) = FirstBad text line
+abbrev pub Checks : List ℕ → List ℕ → List ℕ → Result ℕ ℕ → Type 0
+Checks text before after (Ok n) = Taken text before n after
+Checks text before after (Err line) = FirstBad text line
 
 -- the call: the bytes written, 16 with its line, or 18; a refusal has changed no byte
-abbrev pub ReadSays : List ℕ → List ℕ → List ℕ → ReadAnswer → Type 0
-ReadSays text before after (Read n) = Taken text before n after
-ReadSays text before after (BadRow line) = FirstBad text line × (after ≡ before)
-ReadSays text before after NoRoom = NoRoomFor text before × (after ≡ before)
+abbrev pub ReadSays : List ℕ → List ℕ → List ℕ → Result ℕ ReadFault → Type 0
+ReadSays text before after (Ok n) = Taken text before n after
+ReadSays text before after (Err (BadRow line)) = FirstBad text line × (after ≡ before)
+ReadSays text before after (Err NoRoom) = NoRoomFor text before × (after ≡ before)

@@ -1,15 +1,12 @@
 -- What writing a table as text promises, answer by answer (02 c). Assumes nothing.
-use Rattle.std.specs.Prelude.{ℕ, ◌+◌, ◌<◌, ◌≡◌, List, length}
+use Rattle.std.specs.Prelude.{ℕ, ◌+◌, ◌<◌, ◌≡◌, List, length, Result, Ok, Err}
 use Rattle.lent.specs.Front.{Front}
-use Rattle.term.specs.declared.Table.TheVariants.{Sound, Length, Broken}
 use Rattle.term.specs.Packed.{term_at, terms_from, count_terms}
 use Rattle.term.specs.Sound.{table_answer}
 use Rattle.row.specs.declared.Row.{Row}
 use Rattle.row.specs.Saying.{NoSpelling}
-use Rattle.text.specs.declared.writing.Spelled.{Spelled}
-use Rattle.text.specs.declared.writing.Spelled.TheVariants.{Text, Place}
-use Rattle.text.specs.declared.WriteAnswer.{WriteAnswer}
-use Rattle.text.specs.declared.WriteAnswer.TheVariants.{Written, WrongLength, BrokenTerm, NoSpelling as Unspelled, TooLong}
+use Rattle.text.specs.declared.WriteFault.{WriteFault}
+use Rattle.text.specs.declared.WriteFault.TheVariants.{Unsound, NoSpelling as Unspelled, TooLong}
 use Rattle.text.specs.Table.{AllGood, rows_text, terms_of}
 
 -- good rows say the first n terms of a table
@@ -39,17 +36,16 @@ pub record NoRoomForText (table before : List ℕ) : Type 0 where
   pub spelling : Spelling table (count_terms 38 table) rows
   pub longer : length before < length (rows_text rows)
 
-abbrev pub SpellsOut : List ℕ → List ℕ → List ℕ → Spelled → Type 0
-SpellsOut table before after (Text n) = Typed table before n after
-SpellsOut table before after (Place place) = FirstUnspelled table place
+abbrev pub SpellsOut : List ℕ → List ℕ → List ℕ → Result ℕ ℕ → Type 0
+SpellsOut table before after (Ok n) = Typed table before n after
+SpellsOut table before after (Err place) = FirstUnspelled table place
 
 abbrev pub SoundTable : List ℕ → Type 0
-SoundTable table = table_answer 38 table ≡ Sound (count_terms 38 table)
+SoundTable table = table_answer 38 table ≡ Ok (count_terms 38 table)
 
 -- the call: the bytes written; 1 and 2 as the table's check gives them; 17 with its place; or 18. A refusal has changed no byte
-abbrev pub WriteSays : List ℕ → List ℕ → List ℕ → WriteAnswer → Type 0
-WriteSays table before after (Written n) = SoundTable table × Typed table before n after
-WriteSays table before after WrongLength = (table_answer 38 table ≡ Length) × (after ≡ before)
-WriteSays table before after (BrokenTerm place) = (table_answer 38 table ≡ Broken place) × (after ≡ before)
-WriteSays table before after (Unspelled place) = SoundTable table × FirstUnspelled table place × (after ≡ before)
-WriteSays table before after TooLong = SoundTable table × NoRoomForText table before × (after ≡ before)
+abbrev pub WriteSays : List ℕ → List ℕ → List ℕ → Result ℕ WriteFault → Type 0
+WriteSays table before after (Ok n) = SoundTable table × Typed table before n after
+WriteSays table before after (Err (Unsound fault)) = (table_answer 38 table ≡ Err fault) × (after ≡ before)
+WriteSays table before after (Err (Unspelled place)) = SoundTable table × FirstUnspelled table place × (after ≡ before)
+WriteSays table before after (Err TooLong) = SoundTable table × NoRoomForText table before × (after ≡ before)

@@ -8,24 +8,22 @@ mod values;
 mod writing;
 
 pub use reading::read_text;
+pub use term::Fault;
 pub use values::{read_values, write_values};
 pub use writing::write_text;
 
-// What reading a text answers: the bytes written; 16 with the line of the first bad row; or 18, no room.
+// Why a text is not read: 16 with the line of the first bad row; or 18, no room.
 #[derive(Clone, Copy)]
-pub enum ReadAnswer {
-    Read(usize),
+pub enum ReadFault {
     BadRow(usize),
     NoRoom,
 }
 
-// What writing a table as text answers: the bytes written; 1; 2 with the place of the first broken term; 17 with the place of the first
-// term that has no spelling; or 18, no room.
+// Why a table is not written as text: 1, or 2 with the place of the first broken term, as the table's check finds; 17 with the place of the
+// first term that has no spelling; or 18, no room.
 #[derive(Clone, Copy)]
-pub enum WriteAnswer {
-    Written(usize),
-    WrongLength,
-    BrokenTerm(usize),
+pub enum WriteFault {
+    Unsound(Fault),
     NoSpelling(usize),
     TooLong,
 }

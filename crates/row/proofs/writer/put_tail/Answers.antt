@@ -9,10 +9,10 @@ pub returns-then-power-lt6 : goal.returns-then-power-lt6
 unfolding tail
 returns-then-power-lt6 c =
     let minus = lt-ltb _ _ c.if-power-lt6.true in
-    rw minus (record { put = put_then (put_then (put_then c.put-a.ensures c.put-b.ensures) c.put_digit-c.ensures) c.put.ensures; upper_bound = omega arith })
+    rw minus (record { put = put_then (put_then (put_then c.put_byte-a.ensures c.put_byte-b.ensures) c.put_digit-c.ensures) c.put_byte.ensures; upper_bound = omega arith })
 
 pub returns : goal.returns
 unfolding tail
 returns c =
     let plain = le-ltb _ _ c.if-power-lt6.false in
-    rw plain (record { put = put_then (put_then c.put-a.ensures c.put_digit-b.ensures) c.put-2.ensures; upper_bound = omega arith })
+    rw plain (record { put = put_then (put_then c.put_byte-a.ensures c.put_digit-b.ensures) c.put_byte-2.ensures; upper_bound = omega arith })

@@ -8,38 +8,39 @@ use Rattle.term.specs.Pack.{pack}
 use Rattle.row.specs.Standing.{Reads}
 use Rattle.row.proofs.Length.{row_pos}
 use Rattle.row.proofs.Saying.{good_fields}
+use borrow.Author.Rules.{rules}
 use Rattle.text.proofs.Rows.{passed_none, passed-more, passed-full, passed-bad, passed-empty, passed-end}
 use Rattle.text.proofs.reading.read_rows.Goals as goal
 
 pub loop-at-init : goal.loop-at-init
-loop-at-init c = passed_none _ _ c.requires
+loop-at-init c = passed_none _ _ (search rules)
 
 pub returns-then-count-eq64 : goal.returns-then-count-eq64
 returns-then-count-eq64 c = passed-full c.loop-at.invariant (omega (arith, c.if-count-eq64.true)) c.loop-at-test.true
 
-pub read_row-found-requires : goal.read_row-found-requires
-read_row-found-requires c =
+pub read_row-requires : goal.read_row-requires
+read_row-requires c =
     let p = c.loop-at.invariant in
     (omega (arith, p.near, p.most), p.within)
 
 pub overflow_add-result : goal.overflow_add-result
 overflow_add-result c = omega (arith, c.loop-at.invariant.most)
 
-pub returns-in-Bad : goal.returns-in-Bad
-returns-in-Bad c =
-    passed-bad c.loop-at.invariant c.loop-at-test.true (subst (Reads _ _) c.in-Bad.is c.read_row-found.ensures)
+pub returns-in_default : goal.returns-in_default
+returns-in_default c =
+    passed-bad c.loop-at.invariant c.loop-at-test.true c.in_default.ensures
 
 pub overflow_mul-count : goal.overflow_mul-count
 overflow_mul-count c = omega (arith, c.loop-at.invariant.most)
 
 pub term_of-requires : goal.term_of-requires
 term_of-requires c =
-    let r = subst (Reads c.args.text.now c.loop-at.at) c.in-At.is c.read_row-found.ensures in
+    let r = subst (Reads c.args.text.now c.loop-at.at) c.in-Some.is c.read_row.ensures in
     r.good
 
 pub put_term-requires : goal.put_term-requires
 put_term-requires c =
-    let r = subst (Reads c.args.text.now c.loop-at.at) c.in-At.is c.read_row-found.ensures in
+    let r = subst (Reads c.args.text.now c.loop-at.at) c.in-Some.is c.read_row.ensures in
     (omega (arith, c.loop-at.invariant.full, c.loop-at.invariant.most, c.if-count-eq64.false), rw c.term_of.ensures (good_fields _ r.good))
 
 pub overflow_add-count : goal.overflow_add-count
@@ -47,12 +48,12 @@ overflow_add-count c = omega (arith, c.loop-at.invariant.most)
 
 pub loop-at-smaller : goal.loop-at-smaller
 loop-at-smaller c =
-    let r = subst (Reads c.args.text.now c.loop-at.at) c.in-At.is c.read_row-found.ensures in
-    omega (arith, r.reached, r.within, row_pos c.in-At.row, c.loop-at-test.true)
+    let r = subst (Reads c.args.text.now c.loop-at.at) c.in-Some.is c.read_row.ensures in
+    omega (arith, r.reached, r.within, row_pos c.in-Some.row, c.loop-at-test.true)
 
 pub loop-at-preserved : goal.loop-at-preserved
 loop-at-preserved c =
-    let r = subst (Reads c.args.text.now c.loop-at.at) c.in-At.is c.read_row-found.ensures in
+    let r = subst (Reads c.args.text.now c.loop-at.at) c.in-Some.is c.read_row.ensures in
     passed-more c.loop-at.invariant _ _ _ (omega (arith, c.loop-at.invariant.most, c.if-count-eq64.false)) r
     (c.put_term.ensures.bytes ∙ ap (λ x. sets c.loop-at.table (9 * c.loop-at.count) (pack x)) c.term_of.ensures)
 
