@@ -7,9 +7,7 @@ use Prim.Native.Nat.{ℕ, ◌≤◌, ◌<◌, zero-le}
 use native.Mathlib.Omega.{arith}
 use borrow.Author.Tests.{le-ltb, lt-ltb, le-leb, lt-leb}
 use Rattle.term.specs.Packed.{count_terms}
-use Rattle.term.specs.Sound.{sound_table}
-use Rattle.term.proofs.Answers.{sound-few, sound-whole}
-use Rattle.term.proofs.Rules.{whole_widest}
+use Rattle.term.proofs.Answers.{sound-few}
 use Rattle.verdict.specs.declared.Refusal.{Refusal}
 use Rattle.verdict.specs.Rules.{first_refusal, rejected, state_answer, density_answer, pair_answer}
 use Rattle.verdict.proofs.Tables.{none-refuses, on_refusal}
@@ -17,7 +15,6 @@ use Rattle.verdict.proofs.Tests.{both, together}
 use Rattle.quick.specs.declared.Question.{Question}
 use Rattle.quick.specs.declared.Question.TheVariants as question
 use Rattle.quick.specs.declared.Reply.TheVariants.{Short, Sheet, Check}
-use Rattle.quick.specs.Unpacked.{Readable}
 use Rattle.quick.specs.Lent.{Sound, sound_input, sound_count, laid, plain_reply, refused_reply, reply_of}
 
 and-false : (b : Bool) → (b && false) ≡ false
@@ -61,12 +58,6 @@ module _ (w kind : ℕ) (table : List ℕ) where
       go : (b : Bool) → sound_input w kind table ≡ b → cond b (count_terms kind table) 0 ≤ 64
       go true e = sound-few kind table (sound-parts e).table_sound
       go false e = zero-le
-
-  -- all of a sound table's terms may be read
-  pub readable : sound_table kind table ≡ true → Readable kind table (count_terms kind table)
-  readable s =
-      let whole = sound-whole kind table s in
-      record { inside = omega (arith, whole.whole); few = sound-few kind table s; short = λ l. whole_widest whole }
 
   -- ---- a refusal before anything of the question is asked
   pub refused-input : (why : Refusal) → first_refusal w kind table ≡ Some why → sound_input w kind table ≡ false

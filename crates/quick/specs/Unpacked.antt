@@ -1,6 +1,5 @@
 -- A table's terms in an array of 64, as the engine holds them. Assumes nothing.
-use Rattle.std.specs.Prelude.{ℕ, ◌-◌, ◌*◌, ◌≤◌, ◌<◌, ◌≡◌, false, List, ◌++◌, length, replicate, get_or}
-use Rattle.kind.specs.Kind.{term_bytes}
+use Rattle.std.specs.Prelude.{ℕ, ◌-◌, ◌<◌, ◌≡◌, false, List, ◌++◌, replicate, get_or}
 use Rattle.term.specs.declared.Term.{Term}
 use Rattle.term.specs.Packed.{count_terms, terms_from}
 use Rattle.term.specs.Bounds.{Bounds}
@@ -20,9 +19,3 @@ Holds kind table list = list ≡ listed kind table (count_terms kind table)
 -- the first terms of a list keep the rules' bounds
 abbrev pub AllBounds : List Term → ℕ → Type 0
 AllBounds list count = (k : ℕ) → k < count → Bounds (get_or list k blank)
-
--- so many terms may be read from a table
-pub record Readable (kind : ℕ) (table : List ℕ) (count : ℕ) : Type 0 where
-  pub inside : term_bytes kind * count ≤ length table
-  pub few : count ≤ 64
-  pub short : 0 < count → length table ≤ 768

@@ -25,7 +25,7 @@ fn ask_at(setting: Setting, terms: &mut [Term], question: Question) -> Reply
     if terms.len() < count {
         return Reply::Short;
     }
-    let list = terms_of(setting.table.kind, setting.table.bytes, count);
+    let list = terms_of(setting.table);
     lay(list, count, terms);
     quick(setting, list, question)
 }

@@ -1,8 +1,7 @@
 // A table's terms by value, in an array of 64: what `lay` puts into the lent slice and the engine works on.
-ghost use Rattle.std.specs.Prelude.{◌≡◌};
-ghost use Rattle.quick.specs.Unpacked.{listed, Readable};
+ghost use Rattle.quick.specs.Unpacked.{Holds};
 
-use term::Term;
+use term::{SoundTable, Term};
 
 // A place of the array behind the terms.
 pub const BLANK: Term = Term {
@@ -14,14 +13,13 @@ pub const BLANK: Term = Term {
     magnitude: 0,
 };
 
-// The first terms of a table, each read once.
-pub fn terms_of(kind: u64, table: &[u8], count: usize) -> [Term; 64]
-    requires { Readable kind table.now count }
-    ensures { result ≡ listed kind table.now count }
+// A table's terms, each read once, and blanks behind them.
+pub fn terms_of(table: SoundTable) -> [Term; 64]
+    ensures { Holds table.entry.kind table.entry.bytes.now result }
 {
     let mut list = [BLANK; 64];
-    for i in 0..count {
-        list[i] = term::term_at(kind, table, i);
+    for i in 0..table.count() {
+        list[i] = table.at(i);
     }
     list
 }

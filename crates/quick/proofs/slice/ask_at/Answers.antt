@@ -1,7 +1,8 @@
 -- `quick::slice::ask_at` meets its contract. Assumes nothing.
-use Rattle.std.proofs.Common.{sym, suc, ◌∙◌, length, arith}
+use Rattle.std.proofs.Common.{◌≡◌, sym, suc, ◌∙◌, length, arith}
+use Rattle.quick.specs.Unpacked.{listed}
 use Rattle.term.proofs.Answers.{sound-few}
-use Rattle.quick.proofs.Laid.{readable, count_sound, laid-all, reply_short, reply_plain}
+use Rattle.quick.proofs.Laid.{count_sound, laid-all, reply_short, reply_plain}
 use Rattle.quick.proofs.Same.{slice_kept_20}
 use Rattle.quick.proofs.Stated.{laid-over}
 use Rattle.quick.proofs.slice.ask_at.Goals as goal
@@ -18,9 +19,6 @@ returns-then-terms-count c =
       slice = sym (slice_kept_20 _ _ _ c.args.terms.now (omega (arith, n, l)));
     }
 
-pub terms_of-list-requires : goal.terms_of-list-requires
-terms_of-list-requires c = rw c.count-count.ensures (readable 0 _ _ c.args.setting.table.sound)
-
 pub lay-requires : goal.lay-requires
 lay-requires c =
     let n = c.count-count.ensures in
@@ -28,7 +26,7 @@ lay-requires c =
     (omega (arith, n, sound-few _ _ c.args.setting.table.sound), omega (arith, l))
 
 pub quick-requires : goal.quick-requires
-quick-requires c = rw c.count-count.ensures at c.terms_of-list.ensures
+quick-requires c = c.terms_of-list.ensures
 
 pub returns : goal.returns
 returns c =
@@ -36,9 +34,10 @@ returns c =
     let n = c.count-count.ensures in
     let k = count_sound _ _ _ (record { width_sound = s.width_sound; kind_sound = s.kind_sound; table_sound = s.table.sound }) in
     let l = c.if-terms-count.false in
+    let held : c.terms_of-list.result ≡ listed s.table.kind s.table.bytes.now c.count-count.result = rw n c.terms_of-list.ensures in
     let all = laid-all (suc s.v) s.table.kind s.table.bytes.now (length c.args.terms.now) (omega (arith, n, k, l)) in
     record {
       replied = c.quick.ensures.value ∙ reply_plain _ _ _ _ c.args.question (omega (arith, n, k, l));
       numbers = c.quick.ensures.reply_numbers;
-      slice = c.lay.ensures ∙ laid-over _ _ _ c.args.terms.now _ _ (n ∙ k ∙ all) c.terms_of-list.ensures;
+      slice = c.lay.ensures ∙ laid-over _ _ _ c.args.terms.now _ _ (n ∙ k ∙ all) held;
     }

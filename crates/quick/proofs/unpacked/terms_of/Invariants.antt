@@ -7,4 +7,4 @@ use Rattle.quick.specs.Unpacked.{blank}
 use Rattle.quick.proofs.unpacked.terms_of.Given as goal
 
 abbrev pub invariant-loop-i : goal.invariant-loop-i
-invariant-loop-i l = (length l.list ≡ 64) × (l.list ≡ terms_from l.kind l.table 0 l.i ++ drop l.i (replicate 64 blank))
+invariant-loop-i l = (length l.list ≡ 64) × (l.list ≡ terms_from l.table.kind l.table.bytes.now 0 l.i ++ drop l.i (replicate 64 blank))
