@@ -10,12 +10,11 @@ ghost use Rattle.verdict.specs.Rules.{handed_out, on_sides, state_inputs, state_
 ghost use Rattle.verdict.specs.Handed.{Workable, WorkablePair};
 ghost use Rattle.verdict.specs.Worked.{phase_of};
 ghost use Rattle.quick.specs.Ready.{ReadyFor};
-ghost use Rattle.quick.specs.Unpacked.{Holds};
 
 use crate::pass::sums_of;
 use crate::ready::{Ready, made_ready};
+use crate::unpacked::Unpacked;
 use doubles::range;
-use term::Term;
 use verdict::phases::Phase;
 use verdict::{Ends, Refusal, Rejection, Setting, State, StateSheet, densities, pairs, sheets};
 
@@ -69,47 +68,47 @@ fn phase(setting: Setting, ready: Ready, state: State) -> Phase
 }
 
 // One phase by the table's terms.
-fn phase_of(setting: Setting, list: [Term; 64], state: State) -> Phase
-    requires { Workable setting.table.kind state × Holds setting.table.kind setting.table.bytes.now list }
-    ensures { result ≡ phase_of (suc setting.entry.v) setting.entry.table.kind setting.entry.table.bytes.now (exact_of state.temperature) (exact_of state.density) }
+fn phase_of(unpacked: &Unpacked, state: State) -> Phase
+    requires { Workable unpacked.now.setting.table.kind state }
+    ensures { let s = unpacked.now.setting in result ≡ phase_of (suc s.v) s.table.kind s.table.bytes.now (exact_of state.temperature) (exact_of state.density) }
 {
-    let ready = made_ready(setting, list, state.temperature);
-    phase(setting, ready, state)
+    let ready = made_ready(unpacked, state.temperature);
+    phase(unpacked.setting, ready, state)
 }
 
 // 8, 9 and 11 of the density check.
 fn density_worked(
-    setting: Setting,
-    list: [Term; 64],
+    unpacked: &Unpacked,
     state: State,
     target: f64,
     tolerance: f64,
 ) -> Result<Ends, Rejection>
-    requires { (Workable setting.table.kind state × Holds setting.table.kind setting.table.bytes.now list) × (T (accepted_target setting.table.kind target) × T (accepted_tolerance tolerance)) }
-    ensures value { let w = suc setting.entry.v in let kind = setting.entry.table.kind in let table = setting.entry.table.bytes.now in let t = exact_of state.temperature in let rho = exact_of state.density in result ≡ first_failing (density_worked kind (pressure w kind table t rho) (target_gap w kind table t rho (exact_of target)) (stiffness w kind table t rho) tolerance) (Ok (handed_out (pressure w kind table t rho))) }
+    requires { Workable unpacked.now.setting.table.kind state × (T (accepted_target unpacked.now.setting.table.kind target) × T (accepted_tolerance tolerance)) }
+    ensures value { let s = unpacked.now.setting in let w = suc s.v in let kind = s.table.kind in let table = s.table.bytes.now in let t = exact_of state.temperature in let rho = exact_of state.density in result ≡ first_failing (density_worked kind (pressure w kind table t rho) (target_gap w kind table t rho (exact_of target)) (stiffness w kind table t rho) tolerance) (Ok (handed_out (pressure w kind table t rho))) }
     ensures answer_numbers { AnswerNumbers result }
 {
-    let a = phase_of(setting, list, state);
+    let a = phase_of(unpacked, state);
+    let setting = unpacked.setting;
     let gap = equation::target_gap_of(setting.v, a.pressure, target);
     densities::worked(setting.table.kind, a.pressure, gap, a.stiffness, tolerance)
 }
 
 // 8 to 11 of the pair check: both phases by rows that are made ready once.
 fn pair_worked(
-    setting: Setting,
-    list: [Term; 64],
+    unpacked: &Unpacked,
     liquid: State,
     vapour: f64,
     pressure_tolerance: f64,
     gibbs_tolerance: f64,
 ) -> Result<Ends, Rejection>
-    requires { WorkablePair setting.table.kind liquid vapour pressure_tolerance gibbs_tolerance × Holds setting.table.kind setting.table.bytes.now list }
-    ensures value { let w = suc setting.entry.v in let kind = setting.entry.table.kind in let table = setting.entry.table.bytes.now in result ≡ first_failing (pair_rest w kind table liquid.temperature liquid.density vapour pressure_tolerance gibbs_tolerance) (Ok (handed_out (pressure w kind table (exact_of liquid.temperature) (exact_of vapour)))) }
+    requires { WorkablePair unpacked.now.setting.table.kind liquid vapour pressure_tolerance gibbs_tolerance }
+    ensures value { let s = unpacked.now.setting in let w = suc s.v in let kind = s.table.kind in let table = s.table.bytes.now in result ≡ first_failing (pair_rest w kind table liquid.temperature liquid.density vapour pressure_tolerance gibbs_tolerance) (Ok (handed_out (pressure w kind table (exact_of liquid.temperature) (exact_of vapour)))) }
     ensures answer_numbers { AnswerNumbers result }
 {
+    let setting = unpacked.setting;
     let v = setting.v;
     let t = liquid.temperature;
-    let ready = made_ready(setting, list, t);
+    let ready = made_ready(unpacked, t);
     let l = phase(setting, ready, liquid);
     let g = phase(
         setting,
@@ -134,48 +133,46 @@ fn pair_worked(
     )
 }
 
-pub fn state_sheet(setting: Setting, list: [Term; 64], state: State) -> Result<StateSheet, Refusal>
-    requires { Holds setting.table.kind setting.table.bytes.now list }
-    ensures value { let w = suc setting.entry.v in let kind = setting.entry.table.kind in let table = setting.entry.table.bytes.now in result ≡ first_failing (state_inputs w kind table state.temperature state.density) (state_accepted w kind table state.temperature state.density) }
+pub fn state_sheet(unpacked: &Unpacked, state: State) -> Result<StateSheet, Refusal>
+    ensures value { let s = unpacked.now.setting in let w = suc s.v in let kind = s.table.kind in let table = s.table.bytes.now in result ≡ first_failing (state_inputs w kind table state.temperature state.density) (state_accepted w kind table state.temperature state.density) }
     ensures sheet_numbers { SheetNumbers result }
 {
+    let setting = unpacked.setting;
     let kind = setting.table.kind;
     if !sheet_passes(kind, state) {
         return sheets::screened(setting, state);
     }
-    let a = phase_of(setting, list, state);
+    let a = phase_of(unpacked, state);
     sheets::worked(kind, a.pressure, a.stiffness)
 }
 
 pub fn density_check(
-    setting: Setting,
-    list: [Term; 64],
+    unpacked: &Unpacked,
     state: State,
     target: f64,
     tolerance: f64,
 ) -> Result<Ends, Rejection>
-    requires { Holds setting.table.kind setting.table.bytes.now list }
-    ensures value { let w = suc setting.entry.v in let kind = setting.entry.table.kind in let table = setting.entry.table.bytes.now in result ≡ first_failing (density_inputs w kind table state.temperature state.density target tolerance) (Ok (handed_out (pressure w kind table (exact_of state.temperature) (exact_of state.density)))) }
+    ensures value { let s = unpacked.now.setting in let w = suc s.v in let kind = s.table.kind in let table = s.table.bytes.now in result ≡ first_failing (density_inputs w kind table state.temperature state.density target tolerance) (Ok (handed_out (pressure w kind table (exact_of state.temperature) (exact_of state.density)))) }
     ensures answer_numbers { AnswerNumbers result }
 {
+    let setting = unpacked.setting;
     if !density_passes(setting.table.kind, state, target, tolerance) {
         return densities::screened(setting, state, target, tolerance);
     }
-    density_worked(setting, list, state, target, tolerance)
+    density_worked(unpacked, state, target, tolerance)
 }
 
 pub fn pair_check(
-    setting: Setting,
-    list: [Term; 64],
+    unpacked: &Unpacked,
     liquid: State,
     vapour: f64,
     pressure_tolerance: f64,
     gibbs_tolerance: f64,
 ) -> Result<Ends, Rejection>
-    requires { Holds setting.table.kind setting.table.bytes.now list }
-    ensures value { let w = suc setting.entry.v in let kind = setting.entry.table.kind in let table = setting.entry.table.bytes.now in result ≡ first_failing (pair_inputs w kind table liquid.temperature liquid.density vapour pressure_tolerance gibbs_tolerance) (Ok (handed_out (pressure w kind table (exact_of liquid.temperature) (exact_of vapour)))) }
+    ensures value { let s = unpacked.now.setting in let w = suc s.v in let kind = s.table.kind in let table = s.table.bytes.now in result ≡ first_failing (pair_inputs w kind table liquid.temperature liquid.density vapour pressure_tolerance gibbs_tolerance) (Ok (handed_out (pressure w kind table (exact_of liquid.temperature) (exact_of vapour)))) }
     ensures answer_numbers { AnswerNumbers result }
 {
+    let setting = unpacked.setting;
     if !pair_passes(
         setting.table.kind,
         liquid,
@@ -186,8 +183,7 @@ pub fn pair_check(
         return pairs::screened(setting, liquid, vapour, pressure_tolerance, gibbs_tolerance);
     }
     pair_worked(
-        setting,
-        list,
+        unpacked,
         liquid,
         vapour,
         pressure_tolerance,

@@ -7,15 +7,14 @@ ghost use Rattle.doubles.specs.Range.{accepted_temperature};
 ghost use Rattle.term.specs.Bounds.{Bounds};
 ghost use Rattle.equation.specs.Rules.{coefficient};
 ghost use Rattle.quick.specs.Powers.{nothing};
-ghost use Rattle.quick.specs.Unpacked.{blank, Holds, AllBounds};
+ghost use Rattle.quick.specs.Unpacked.{blank, AllBounds};
 ghost use Rattle.quick.specs.Ready.{Farther, Reaches, RowsTo, ReadyFor};
 
 use crate::keys::{first_like, keys_of};
 use crate::powers::{NOTHING, powers};
-use crate::unpacked::BLANK;
+use crate::unpacked::{BLANK, Unpacked};
 use bracket::Bracket;
 use term::Term;
-use verdict::Setting;
 
 // A term, its coefficient and tau to the power t; `same` is the first place with its c and factor, `like` the first with its d too.
 #[derive(Clone, Copy)]
@@ -103,13 +102,12 @@ fn rows_of(v: u64, terms: &[Term], taus: &[Bracket; 64]) -> [Row; 64]
 }
 
 // All of it for a table's terms at a temperature.
-pub fn made_ready(setting: Setting, list: [Term; 64], t: f64) -> Ready
-    requires held { Holds setting.table.kind setting.table.bytes.now list }
-    requires t_accepted { T (accepted_temperature widest t) }
-    ensures { ReadyFor (suc setting.entry.v) setting.entry.table.kind setting.entry.table.bytes.now result × (result.t ≡ t) }
+pub fn made_ready(unpacked: &Unpacked, t: f64) -> Ready
+    requires { T (accepted_temperature widest t) }
+    ensures { let s = unpacked.now.setting in ReadyFor (suc s.v) s.table.kind s.table.bytes.now result × (result.t ≡ t) }
 {
-    let v = setting.v;
-    let terms = &list[..setting.table.count()];
+    let v = unpacked.setting.v;
+    let terms = &unpacked.list[..unpacked.setting.table.count()];
     let far = reach_of(terms);
     let taus = powers(v, equation::tau(v, t), far.t);
     let rows = rows_of(v, terms, &taus);

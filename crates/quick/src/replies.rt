@@ -2,11 +2,10 @@
 ghost use Rattle.std.specs.Prelude.{◌≡◌, suc};
 ghost use Rattle.quick.specs.Lent.{plain_reply, refused_reply};
 ghost use Rattle.quick.specs.Reading.{ReplyNumbers};
-ghost use Rattle.quick.specs.Unpacked.{Holds};
 
+use crate::unpacked::Unpacked;
 use crate::{Question, Reply, answers};
-use term::Term;
-use verdict::{Refusal, Rejection, Setting};
+use verdict::{Refusal, Rejection};
 
 impl Question {
     // The reply where nothing of it is asked yet.
@@ -22,25 +21,23 @@ impl Question {
     }
 }
 
-// The reply by the table's terms in a list.
-pub fn quick(setting: Setting, list: [Term; 64], question: Question) -> Reply
-    requires { Holds setting.table.kind setting.table.bytes.now list }
-    ensures value { result ≡ plain_reply (suc setting.entry.v) setting.entry.table.kind setting.entry.table.bytes.now question }
+// The reply by the table's terms.
+pub fn quick(unpacked: &Unpacked, question: Question) -> Reply
+    ensures value { let s = unpacked.now.setting in result ≡ plain_reply (suc s.v) s.table.kind s.table.bytes.now question }
     ensures reply_numbers { ReplyNumbers result }
 {
     match question {
         Question::Sheet(state) => {
-            let answer = answers::state_sheet(setting, list, state);
+            let answer = answers::state_sheet(unpacked, state);
             Reply::Sheet(answer)
         }
         Question::Density(state, target, tolerance) => {
-            let answer = answers::density_check(setting, list, state, target, tolerance);
+            let answer = answers::density_check(unpacked, state, target, tolerance);
             Reply::Check(answer)
         }
         Question::Pair(state, vapour, pressure_tolerance, gibbs_tolerance) => {
             let answer = answers::pair_check(
-                setting,
-                list,
+                unpacked,
                 state,
                 vapour,
                 pressure_tolerance,

@@ -4,15 +4,15 @@ ghost use Rattle.quick.specs.Lent.{plain_reply, Stated};
 ghost use Rattle.quick.specs.Reading.{ReplyNumbers};
 
 use crate::replies::quick;
-use crate::unpacked::{BLANK, terms_of};
+use crate::unpacked::{BLANK, Unpacked};
 use crate::{Question, Reply};
 use term::Term;
 use verdict::Setting;
 
 // The first `count` terms of a list at the front of the slice; the places behind them stay.
-fn lay(list: [Term; 64], count: usize, terms: &mut [Term])
+fn lay(list: &[Term; 64], count: usize, terms: &mut [Term])
     requires { (count ≤ 64) × (count ≤ length terms.old) }
-    ensures { terms.new ≡ take count list ++ drop count terms.old }
+    ensures { terms.new ≡ take count list.now ++ drop count terms.old }
 {
     terms[..count].copy_from_slice(&list[..count]);
 }
@@ -25,9 +25,9 @@ fn ask_at(setting: Setting, terms: &mut [Term], question: Question) -> Reply
     if terms.len() < count {
         return Reply::Short;
     }
-    let list = terms_of(setting.table);
-    lay(list, count, terms);
-    quick(setting, list, question)
+    let unpacked = Unpacked::of(setting);
+    lay(&unpacked.list, count, terms);
+    quick(&unpacked, question)
 }
 
 // The reply to a question with a lent slice.

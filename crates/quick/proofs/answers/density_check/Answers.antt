@@ -7,7 +7,7 @@ use Rattle.quick.proofs.answers.density_check.Goals as goal
 pub density_worked-requires : goal.density_worked-requires
 density_worked-requires c =
     let d = density_parts _ _ _ _ _ (passed c.density_passes.ensures c.if-not-density_passes.false) in
-    ((record { temperature = holds d.0; density = holds d.1 }, c.requires), (holds d.2, holds d.3))
+    (record { temperature = holds d.0; density = holds d.1 }, (holds d.2, holds d.3))
 
 pub returns : goal.returns
 returns c =

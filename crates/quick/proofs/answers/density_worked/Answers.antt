@@ -16,8 +16,8 @@ pub target_gap_of-gap-requires : goal.target_gap_of-gap-requires
 unfolding phase_of
 target_gap_of-gap-requires c =
     let p = c.requires in
-    let w = p.0.0 in
-    let s = c.args.setting in
+    let w = p.0 in
+    let s = c.args.unpacked.now.setting in
     let v = width_of _ s.width_sound in
     (rw c.phase_of-a.ensures (pressure-ready v _ _ s.table.sound _ w.temperature _ w.density), target_widest _ _ p.1.0)
 
@@ -25,10 +25,10 @@ pub worked-requires : goal.worked-requires
 unfolding phase_of target_gap
 worked-requires c =
     let p = c.requires in
-    let w = p.0.0 in
-    let s = c.args.setting in
+    let w = p.0 in
+    let s = c.args.unpacked.now.setting in
     let v = width_of _ s.width_sound in
-    let fit = subst T (sym c.well_formed.1.1.1.0.1) tt in
+    let fit = subst T (sym c.well_formed.1.1.0.1) tt in
     rw (c.target_gap_of-gap.ensures, c.phase_of-a.ensures) (
       (pressure-handy v _ _ s.table.sound _ w.temperature _ w.density, target_gap-handy v _ _ s.table.sound _ w.temperature _ w.density _ fit p.1.0),
       (stiffness-handy v _ _ s.table.sound _ w.temperature _ w.density, tolerance_finite _ p.1.1),

@@ -8,17 +8,15 @@ use Rattle.quick.proofs.answers.pair_check.Goals as goal
 pub pair_worked-requires : goal.pair_worked-requires
 pair_worked-requires c =
     let x = pair_parts _ _ _ _ _ _ (passed c.pair_passes.ensures c.if-not-pair_passes.false) in
-    let apart = sides _ _ x.apart in (
-      record {
-        temperature = above-triple_point _ _ x.hot;
-        liquid_density = holds x.dense;
-        vapour_density = holds x.thin;
-        pressure-tolerance = tolerance_finite _ (holds x.near);
-        gibbs-tolerance = tolerance_finite _ (holds x.close);
-        above = ≺→≼ (≺-trans apart.1 apart.0);
-      },
-      c.requires,
-    )
+    let apart = sides _ _ x.apart in
+    record {
+      temperature = above-triple_point _ _ x.hot;
+      liquid_density = holds x.dense;
+      vapour_density = holds x.thin;
+      pressure-tolerance = tolerance_finite _ (holds x.near);
+      gibbs-tolerance = tolerance_finite _ (holds x.close);
+      above = ≺→≼ (≺-trans apart.1 apart.0);
+    }
 
 pub returns : goal.returns
 returns c =

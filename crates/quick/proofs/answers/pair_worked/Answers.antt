@@ -10,24 +10,23 @@ use Rattle.quick.proofs.answers.pair_worked.Goals as goal
 
 pub made_ready-ready-requires : goal.made_ready-ready-requires
 made_ready-ready-requires c =
-    let p = c.requires in
-    record { held = p.1; t_accepted = temperature_widest _ _ p.0.temperature }
+    temperature_widest _ _ c.requires.temperature
 
 pub phase-l-requires : goal.phase-l-requires
 phase-l-requires c =
-    let p = c.requires.0 in
+    let p = c.requires in
     (record { temperature = p.temperature; density = p.liquid_density }, c.made_ready-ready.ensures)
 
 pub phase-g-requires : goal.phase-g-requires
 phase-g-requires c =
-    let p = c.requires.0 in
+    let p = c.requires in
     (record { temperature = p.temperature; density = p.vapour_density }, c.made_ready-ready.ensures)
 
 pub pressure_gap_of-gap-requires : goal.pressure_gap_of-gap-requires
 unfolding phase_of
 pressure_gap_of-gap-requires c =
-    let p = c.requires.0 in
-    let s = c.args.setting in
+    let p = c.requires in
+    let s = c.args.unpacked.now.setting in
     let v = width_of _ s.width_sound in
     rw (c.phase-g.ensures, c.phase-l.ensures)
     (pressure-ready v _ _ s.table.sound _ p.temperature _ p.liquid_density, pressure-ready v _ _ s.table.sound _ p.temperature _ p.vapour_density)
@@ -35,8 +34,8 @@ pressure_gap_of-gap-requires c =
 pub gibbs_gap_of-gibbs-requires : goal.gibbs_gap_of-gibbs-requires
 unfolding phase_of
 gibbs_gap_of-gibbs-requires c =
-    let p = c.requires.0 in
-    let s = c.args.setting in
+    let p = c.requires in
+    let s = c.args.unpacked.now.setting in
     let v = width_of _ s.width_sound in (
       temperature_widest _ _ p.temperature,
       record { dense = density_widest _ _ p.liquid_density; thin = density_widest _ _ p.vapour_density; order = holds (≼-leq p.above) },
@@ -47,8 +46,8 @@ gibbs_gap_of-gibbs-requires c =
 pub judged-requires : goal.judged-requires
 unfolding phase_of pressure_gap gibbs_gap
 judged-requires c =
-    let p = c.requires.0 in
-    let s = c.args.setting in
+    let p = c.requires in
+    let s = c.args.unpacked.now.setting in
     let v = width_of _ s.width_sound in (
       rw (c.gibbs_gap_of-gibbs.ensures, c.pressure_gap_of-gap.ensures, c.phase-g.ensures, c.phase-l.ensures) (
         (

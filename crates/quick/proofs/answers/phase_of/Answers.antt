@@ -3,10 +3,10 @@ use Rattle.doubles.proofs.Limits.{temperature_widest}
 use Rattle.quick.proofs.answers.phase_of.Goals as goal
 
 pub made_ready-ready-requires : goal.made_ready-ready-requires
-made_ready-ready-requires c = record { held = c.requires.1; t_accepted = temperature_widest _ _ c.requires.0.temperature }
+made_ready-ready-requires c = temperature_widest _ _ c.requires.temperature
 
 pub phase-requires : goal.phase-requires
-phase-requires c = (c.requires.0, c.made_ready-ready.ensures)
+phase-requires c = (c.requires, c.made_ready-ready.ensures)
 
 pub returns : goal.returns
 returns c = c.phase.ensures

@@ -10,13 +10,13 @@ use Rattle.quick.proofs.answers.state_sheet.Goals as goal
 pub phase_of-a-requires : goal.phase_of-a-requires
 phase_of-a-requires c =
     let d = state_parts _ _ _ (passed c.sheet_passes.ensures c.if-not-sheet_passes.false) in
-    (record { temperature = holds d.0; density = holds d.1 }, c.requires)
+    record { temperature = holds d.0; density = holds d.1 }
 
 pub worked-requires : goal.worked-requires
 unfolding phase_of
 worked-requires c =
     let d = state_parts _ _ _ (passed c.sheet_passes.ensures c.if-not-sheet_passes.false) in
-    let s = c.args.setting in
+    let s = c.args.unpacked.now.setting in
     let v = width_of _ s.width_sound in
     rw c.phase_of-a.ensures (pressure-handy v _ _ s.table.sound _ (holds d.0) _ (holds d.1), stiffness-handy v _ _ s.table.sound _ (holds d.0) _ (holds d.1))
 

@@ -10,7 +10,7 @@ use Rattle.quick.proofs.replies.quick.Goals as goal
 pub returns-in-Sheet : goal.returns-in-Sheet
 unfolding plain_reply state_answer
 returns-in-Sheet c =
-    let s = c.args.setting in
+    let s = c.args.unpacked.now.setting in
     let none = none-refuses _ _ _ s.width_sound s.kind_sound s.table.sound in record {
       value = ap Sheet (c.state_sheet-answer.ensures.value ∙ sym (on_none Err _ _ _ _ _ none)) ∙ ap (plain_reply _ _ _) (sym c.in-Sheet.is);
       reply_numbers = c.state_sheet-answer.ensures.sheet_numbers;
@@ -19,7 +19,7 @@ returns-in-Sheet c =
 pub returns-in-Density : goal.returns-in-Density
 unfolding plain_reply density_answer
 returns-in-Density c =
-    let s = c.args.setting in
+    let s = c.args.unpacked.now.setting in
     let none = none-refuses _ _ _ s.width_sound s.kind_sound s.table.sound in record {
       value = ap Check (c.density_check-answer.ensures.value ∙ sym (on_none rejected _ _ _ _ _ none)) ∙ ap (plain_reply _ _ _) (sym c.in-Density.is);
       reply_numbers = c.density_check-answer.ensures.answer_numbers;
@@ -28,7 +28,7 @@ returns-in-Density c =
 pub returns-in-Pair : goal.returns-in-Pair
 unfolding plain_reply pair_answer
 returns-in-Pair c =
-    let s = c.args.setting in
+    let s = c.args.unpacked.now.setting in
     let none = none-refuses _ _ _ s.width_sound s.kind_sound s.table.sound in record {
       value = ap Check (c.pair_check-answer.ensures.value ∙ sym (on_none rejected _ _ _ _ _ none)) ∙ ap (plain_reply _ _ _) (sym c.in-Pair.is);
       reply_numbers = c.pair_check-answer.ensures.answer_numbers;

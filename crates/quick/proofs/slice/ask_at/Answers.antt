@@ -25,19 +25,17 @@ lay-requires c =
     let l = c.if-terms-count.false in
     (omega (arith, n, sound-few _ _ c.args.setting.table.sound), omega (arith, l))
 
-pub quick-requires : goal.quick-requires
-quick-requires c = c.terms_of-list.ensures
-
 pub returns : goal.returns
 returns c =
     let s = c.args.setting in
     let n = c.count-count.ensures in
     let k = count_sound _ _ _ (record { width_sound = s.width_sound; kind_sound = s.kind_sound; table_sound = s.table.sound }) in
     let l = c.if-terms-count.false in
-    let held : c.terms_of-list.result ≡ listed s.table.kind s.table.bytes.now c.count-count.result = rw n c.terms_of-list.ensures in
+    let u = c.of-unpacked in
+    let held : u.result.list ≡ listed s.table.kind s.table.bytes.now c.count-count.result = rw (n, ← u.ensures) u.result.holds in
     let all = laid-all (suc s.v) s.table.kind s.table.bytes.now (length c.args.terms.now) (omega (arith, n, k, l)) in
     record {
-      replied = c.quick.ensures.value ∙ reply_plain _ _ _ _ c.args.question (omega (arith, n, k, l));
+      replied = (rw u.ensures at c.quick.ensures.value) ∙ reply_plain _ _ _ _ c.args.question (omega (arith, n, k, l));
       numbers = c.quick.ensures.reply_numbers;
       slice = c.lay.ensures ∙ laid-over _ _ _ c.args.terms.now _ _ (n ∙ k ∙ all) held;
     }
