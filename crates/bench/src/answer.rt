@@ -4,7 +4,7 @@ ghost use Rattle.line.specs.Line.{Within, held};
 ghost use Rattle.bench.specs.Lines.{proposal_line, cut_line};
 
 use line::Line;
-use verdict::State;
+use verdict::{State, Tolerances};
 
 pub fn answer_line(width: u64, kind: u64, table: &[u8], count: u64, proposal: &[u8; 40]) -> Line
     ensures value { result ≡ held (proposal_line width kind table.now count proposal.now) }
@@ -15,15 +15,11 @@ pub fn answer_line(width: u64, kind: u64, table: &[u8], count: u64, proposal: &[
         temperature: p.temperature,
         density: p.liquid,
     };
-    let answer = quick::pair_check(
-        width,
-        kind,
-        table,
-        liquid,
-        p.vapour,
-        p.pressure_tolerance,
-        p.gibbs_tolerance,
-    );
+    let tolerances = Tolerances {
+        pressure: p.pressure_tolerance,
+        gibbs: p.gibbs_tolerance,
+    };
+    let answer = quick::pair_check(width, kind, table, liquid, p.vapour, tolerances);
     let values = reading::of_check(answer);
     line::of_answer(count, values[0], values[1], values[2], values[3])
 }

@@ -2,7 +2,7 @@
 // the number, the place, and the ends as 16 hexadecimal digits each.
 use std::io;
 use std::io::Write;
-use verdict::State;
+use verdict::{State, Tolerances};
 
 // What is asked about. A case about an f64 shows its bits behind the label.
 #[derive(Clone, Copy)]
@@ -98,14 +98,12 @@ impl<'a> Asked<'a> {
             temperature,
             density: liquid,
         };
+        let tolerances = Tolerances {
+            pressure: pressure_tolerance,
+            gibbs: gibbs_tolerance,
+        };
         let answer = verdict::pair_check(
-            self.width,
-            self.kind,
-            self.table,
-            state,
-            vapour,
-            pressure_tolerance,
-            gibbs_tolerance,
+            self.width, self.kind, self.table, state, vapour, tolerances,
         );
         write_values(output, &reading::of_check(answer))
     }

@@ -16,7 +16,7 @@ ghost use Rattle.verdict.specs.Rules.{state_answer, density_answer, pair_answer}
 ghost use Rattle.panel.specs.Chosen.{chosen, sheet_chosen};
 
 use reading::at;
-use verdict::State;
+use verdict::{State, Tolerances};
 
 // The state sheet: 2 and 3 the ends of pressure, 4 and 5 those of stiffness.
 #[unsafe(no_mangle)]
@@ -83,15 +83,11 @@ pub extern "C" fn wb_pair(
         temperature: t,
         density: liquid,
     };
-    let answer = quick::pair_check(
-        width,
-        kind,
-        table,
-        state,
-        vapour,
-        pressure_tolerance,
-        gibbs_tolerance,
-    );
+    let tolerances = Tolerances {
+        pressure: pressure_tolerance,
+        gibbs: gibbs_tolerance,
+    };
+    let answer = quick::pair_check(width, kind, table, state, vapour, tolerances);
     let values = reading::of_check(answer);
     at(&values, choice)
 }

@@ -7,7 +7,7 @@ ghost use Rattle.panel.specs.Lent.{reply_chosen, LentCalled};
 
 use quick::{Question, Reply};
 use term::Term;
-use verdict::State;
+use verdict::{State, Tolerances};
 
 fn sheet_question(t: f64, rho: f64) -> Question
     ensures { result ≡ Sheet (record { temperature = t; density = rho }) }
@@ -35,13 +35,17 @@ fn pair_question(
     pressure_tolerance: f64,
     gibbs_tolerance: f64,
 ) -> Question
-    ensures { result ≡ Pair (record { temperature = t; density = liquid }) vapour pressure_tolerance gibbs_tolerance }
+    ensures { result ≡ Pair (record { temperature = t; density = liquid }) vapour (record { pressure = pressure_tolerance; gibbs = gibbs_tolerance }) }
 {
     let state = State {
         temperature: t,
         density: liquid,
     };
-    Question::Pair(state, vapour, pressure_tolerance, gibbs_tolerance)
+    let tolerances = Tolerances {
+        pressure: pressure_tolerance,
+        gibbs: gibbs_tolerance,
+    };
+    Question::Pair(state, vapour, tolerances)
 }
 
 // The reply's value at a choice.
@@ -119,7 +123,7 @@ pub extern "C" fn wb_pair_lent(
     gibbs_tolerance: f64,
     choice: u64,
 ) -> u64
-    ensures lent_called { LentCalled width kind table.now terms.old terms.new (Pair (record { temperature = t; density = liquid }) vapour pressure_tolerance gibbs_tolerance) choice result }
+    ensures lent_called { LentCalled width kind table.now terms.old terms.new (Pair (record { temperature = t; density = liquid }) vapour (record { pressure = pressure_tolerance; gibbs = gibbs_tolerance })) choice result }
     ensures table_stays { table.exit.now ≡ table.entry.now }
 {
     let question = pair_question(t, liquid, vapour, pressure_tolerance, gibbs_tolerance);

@@ -10,7 +10,7 @@ ghost use Rattle.verdict.specs.Rules.{state_answer, pair_answer};
 ghost use Rattle.reading.specs.Values.{check_values, sheet_values};
 
 use reading::at;
-use verdict::State;
+use verdict::{State, Tolerances};
 
 #[unsafe(no_mangle)]
 pub extern "C" fn mark_plain_state(
@@ -51,15 +51,11 @@ pub extern "C" fn mark_plain_pair(
         temperature: t,
         density: liquid,
     };
-    let answer = verdict::pair_check(
-        width,
-        kind,
-        table,
-        state,
-        vapour,
-        pressure_tolerance,
-        gibbs_tolerance,
-    );
+    let tolerances = Tolerances {
+        pressure: pressure_tolerance,
+        gibbs: gibbs_tolerance,
+    };
+    let answer = verdict::pair_check(width, kind, table, state, vapour, tolerances);
     let values = reading::of_check(answer);
     at(&values, choice)
 }

@@ -74,7 +74,7 @@ module _ (w kind : ℕ) (table : List ℕ) where
   unfolding refused_reply plain_reply state_answer density_answer pair_answer
   refused-plain why (question.Sheet state) e = ap Sheet (on_refusal Err w kind table _ _ why e)
   refused-plain why (question.Density state target tolerance) e = ap Check (on_refusal rejected w kind table _ _ why e)
-  refused-plain why (question.Pair state vapour pressure_tolerance gibbs_tolerance) e = ap Check (on_refusal rejected w kind table _ _ why e)
+  refused-plain why (question.Pair state vapour tolerances) e = ap Check (on_refusal rejected w kind table _ _ why e)
 
   -- ---- by the slice's length
   module _ (room : ℕ) where

@@ -63,8 +63,8 @@ plain_not : (w kind : ℕ) (table : List ℕ) (asked : Question) → reply_numbe
 unfolding plain_reply
 plain_not w kind table (question.Sheet state) e = sheet_not (state_answer w kind table state.temperature state.density) e
 plain_not w kind table (question.Density state target tolerance) e = check_not (density_answer w kind table state.temperature state.density target tolerance) e
-plain_not w kind table (question.Pair state vapour pressure_tolerance gibbs_tolerance) e =
-    check_not (pair_answer w kind table state.temperature state.density vapour pressure_tolerance gibbs_tolerance) e
+plain_not w kind table (question.Pair state vapour tolerances) e =
+    check_not (pair_answer w kind table state.temperature state.density vapour tolerances.pressure tolerances.gibbs) e
 
 module _ (w kind : ℕ) (table : List ℕ) where
   -- the count of a table that passes 19, 29, 1 and 2
@@ -156,11 +156,11 @@ module _ (w kind : ℕ) (table : List ℕ) where
       let rho = state.density in
       fails (λ e. (density_19 w kind table t rho target tolerance).0 e) (λ e. ((density_29 w kind table t rho target tolerance).0 e).1) (λ e. ((density_1 w kind table t rho target tolerance).0 e).1.1)
       (λ e. ((density_2 w kind table t rho target tolerance).0 e).1.1.1)
-  early (question.Pair state vapour pressure_tolerance gibbs_tolerance) =
+  early (question.Pair state vapour tolerances) =
       let t = state.temperature in
       let l = state.density in
-      fails (λ e. (pair-19 w kind table t l vapour pressure_tolerance gibbs_tolerance).0 e) (λ e. ((pair-29 w kind table t l vapour pressure_tolerance gibbs_tolerance).0 e).1)
-      (λ e. ((pair-1 w kind table t l vapour pressure_tolerance gibbs_tolerance).0 e).1.1) (λ e. ((pair-2 w kind table t l vapour pressure_tolerance gibbs_tolerance).0 e).1.1.1)
+      fails (λ e. (pair-19 w kind table t l vapour tolerances.pressure tolerances.gibbs).0 e) (λ e. ((pair-29 w kind table t l vapour tolerances.pressure tolerances.gibbs).0 e).1)
+      (λ e. ((pair-1 w kind table t l vapour tolerances.pressure tolerances.gibbs).0 e).1.1) (λ e. ((pair-2 w kind table t l vapour tolerances.pressure tolerances.gibbs).0 e).1.1.1)
 
   -- which of the four fails first
   first : sound_input w kind table ≡ false
@@ -189,12 +189,12 @@ module _ (w kind : ℕ) (table : List ℕ) where
       ⊎_elim (λ f. inl ((density_19 w kind table t rho target tolerance).1 f))
       (⊎_elim (λ f. inr (inl ((density_29 w kind table t rho target tolerance).1 f)))
       (⊎_elim (λ f. inr (inr (inl ((density_1 w kind table t rho target tolerance).1 f)))) (λ f. inr (inr (inr ((density_2 w kind table t rho target tolerance).1 f)))))) (first h)
-  early-of (question.Pair state vapour pressure_tolerance gibbs_tolerance) h =
+  early-of (question.Pair state vapour tolerances) h =
       let t = state.temperature in
       let l = state.density in
-      ⊎_elim (λ f. inl ((pair-19 w kind table t l vapour pressure_tolerance gibbs_tolerance).1 f))
-      (⊎_elim (λ f. inr (inl ((pair-29 w kind table t l vapour pressure_tolerance gibbs_tolerance).1 f)))
-      (⊎_elim (λ f. inr (inr (inl ((pair-1 w kind table t l vapour pressure_tolerance gibbs_tolerance).1 f)))) (λ f. inr (inr (inr ((pair-2 w kind table t l vapour pressure_tolerance gibbs_tolerance).1 f)))))) (first h)
+      ⊎_elim (λ f. inl ((pair-19 w kind table t l vapour tolerances.pressure tolerances.gibbs).1 f))
+      (⊎_elim (λ f. inr (inl ((pair-29 w kind table t l vapour tolerances.pressure tolerances.gibbs).1 f)))
+      (⊎_elim (λ f. inr (inr (inl ((pair-1 w kind table t l vapour tolerances.pressure tolerances.gibbs).1 f)))) (λ f. inr (inr (inr ((pair-2 w kind table t l vapour tolerances.pressure tolerances.gibbs).1 f)))))) (first h)
 
 -- ---- what a call states
 
@@ -240,14 +240,14 @@ module _ (w kind : ℕ) (table : List ℕ) (before : List Term) (asked : Questio
 -- ---- demand 3
 
 module _ (w kind : ℕ) (table : List ℕ) (before after : List Term) (reply : Reply) (state : State) where
-  module _ (vapour pressure_tolerance gibbs_tolerance : Float) (s : Stated w kind table before after (question.Pair state vapour pressure_tolerance gibbs_tolerance) reply) where
+  module _ (vapour pressure_tolerance gibbs_tolerance : Float) (s : Stated w kind table before after (question.Pair state vapour (record { pressure = pressure_tolerance; gibbs = gibbs_tolerance })) reply) where
     -- an accepted pair is balanced, at every level
     pub accepted-pair_lent : reply_number reply ≡ 0 → (N : ℕ) → 256 ≤ N
         → Balanced N kind table (exact_of state.temperature) (exact_of state.density) (exact_of vapour) (exact_of pressure_tolerance) (exact_of gibbs_tolerance)
     unfolding plain_reply
     accepted-pair_lent z =
         accepted-pair w kind table state.temperature state.density vapour pressure_tolerance gibbs_tolerance
-        (ap reply_number (sym (plain_answer w kind table before (question.Pair state vapour pressure_tolerance gibbs_tolerance) reply after s (λ e. omega (arith, e, z)))) ∙ z)
+        (ap reply_number (sym (plain_answer w kind table before (question.Pair state vapour (record { pressure = pressure_tolerance; gibbs = gibbs_tolerance })) reply after s (λ e. omega (arith, e, z)))) ∙ z)
 
     -- and a pair that is good by more than the width of its brackets is accepted, if the slice holds as many terms as the table
     pub good_pair_lent : count_terms kind table ≤ length before → SoundPair w kind table state.temperature state.density vapour pressure_tolerance gibbs_tolerance → (N : ℕ) → 256 ≤ N
@@ -255,7 +255,7 @@ module _ (w kind : ℕ) (table : List ℕ) (before after : List Term) (reply : R
         → reply_number reply ≡ 0
     unfolding plain_reply
     good_pair_lent enough sound N level good =
-        ap reply_number (s.replied ∙ same-with_room w kind table (length before) (question.Pair state vapour pressure_tolerance gibbs_tolerance) enough)
+        ap reply_number (s.replied ∙ same-with_room w kind table (length before) (question.Pair state vapour (record { pressure = pressure_tolerance; gibbs = gibbs_tolerance })) enough)
         ∙ good_pair w kind table state.temperature state.density vapour pressure_tolerance gibbs_tolerance sound N level good
 
   module _ (target tolerance : Float) (s : Stated w kind table before after (question.Density state target tolerance) reply) where

@@ -39,14 +39,14 @@ laid_on w kind table before = terms_from kind table 0 (laid w kind table (length
 unfoldable pub plain_reply : (w kind : ℕ) → List ℕ → Question → Reply
 plain_reply w kind table (question.Sheet state) = Sheet (state_answer w kind table state.temperature state.density)
 plain_reply w kind table (question.Density state target tolerance) = Check (density_answer w kind table state.temperature state.density target tolerance)
-plain_reply w kind table (question.Pair state vapour pressure_tolerance gibbs_tolerance) =
-    Check (pair_answer w kind table state.temperature state.density vapour pressure_tolerance gibbs_tolerance)
+plain_reply w kind table (question.Pair state vapour tolerances) =
+    Check (pair_answer w kind table state.temperature state.density vapour tolerances.pressure tolerances.gibbs)
 
 -- a refusal before anything of the question is asked
 unfoldable pub refused_reply : Refusal → Question → Reply
 refused_reply why (question.Sheet state) = Sheet (Err why)
 refused_reply why (question.Density state target tolerance) = Check (rejected why)
-refused_reply why (question.Pair state vapour pressure_tolerance gibbs_tolerance) = Check (rejected why)
+refused_reply why (question.Pair state vapour tolerances) = Check (rejected why)
 
 -- 20 where the slice holds fewer terms than the table, behind 19, 29, 1 and 2; else the plain engine's answer
 unfoldable pub reply_of : (w kind : ℕ) → List ℕ → (room : ℕ) → Question → Reply

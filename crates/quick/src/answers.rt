@@ -16,7 +16,9 @@ use crate::ready::{Ready, made_ready};
 use crate::unpacked::Unpacked;
 use doubles::range;
 use verdict::phases::Phase;
-use verdict::{Ends, Refusal, Rejection, Setting, State, StateSheet, densities, pairs, sheets};
+use verdict::{
+    Ends, Refusal, Rejection, Setting, State, StateSheet, Tolerances, densities, pairs, sheets,
+};
 
 // Whether 3 and 4 pass.
 fn sheet_passes(kind: u64, state: State) -> bool
@@ -35,19 +37,12 @@ fn density_passes(kind: u64, state: State, target: f64, tolerance: f64) -> bool
 }
 
 // Whether 3, 4, 6 and 7 pass.
-fn pair_passes(
-    kind: u64,
-    liquid: State,
-    vapour: f64,
-    pressure_tolerance: f64,
-    gibbs_tolerance: f64,
-) -> bool
-    ensures { result ≡ ((accepted_pair_temperature liquid.temperature && (accepted_density kind liquid.density && accepted_density kind vapour)) && ((accepted_tolerance pressure_tolerance && accepted_tolerance gibbs_tolerance) && on_sides liquid.density vapour)) }
+fn pair_passes(kind: u64, liquid: State, vapour: f64, tolerances: Tolerances) -> bool
+    ensures { result ≡ ((accepted_pair_temperature liquid.temperature && (accepted_density kind liquid.density && accepted_density kind vapour)) && ((accepted_tolerance tolerances.pressure && accepted_tolerance tolerances.gibbs) && on_sides liquid.density vapour)) }
 {
     range::accepts_pair_temperature(liquid.temperature)
         && pairs::accepts_densities(kind, liquid.density, vapour)
-        && (pairs::accepts_tolerances(pressure_tolerance, gibbs_tolerance)
-            && pairs::on_sides(liquid.density, vapour))
+        && (pairs::accepts_tolerances(tolerances) && pairs::on_sides(liquid.density, vapour))
 }
 
 // One phase by the rows that are ready.
@@ -55,16 +50,8 @@ fn phase(setting: Setting, ready: Ready, state: State) -> Phase
     requires { Workable setting.table.kind state × (ReadyFor (suc setting.v) setting.table.kind setting.table.bytes.now ready × (ready.t ≡ state.temperature)) }
     ensures { result ≡ phase_of (suc setting.entry.v) setting.entry.table.kind setting.entry.table.bytes.now (exact_of state.temperature) (exact_of state.density) }
 {
-    let v = setting.v;
-    let t = state.temperature;
     let sums = sums_of(setting, ready, state.density);
-    let pressure = equation::pressure_of(v, t, state.density, sums);
-    let stiffness = equation::stiffness_of(v, t, sums);
-    Phase {
-        sums,
-        pressure,
-        stiffness,
-    }
+    Phase::of(setting, state, sums)
 }
 
 // One phase by the table's terms.
@@ -98,11 +85,10 @@ fn pair_worked(
     unpacked: &Unpacked,
     liquid: State,
     vapour: f64,
-    pressure_tolerance: f64,
-    gibbs_tolerance: f64,
+    tolerances: Tolerances,
 ) -> Result<Ends, Rejection>
-    requires { WorkablePair unpacked.now.setting.table.kind liquid vapour pressure_tolerance gibbs_tolerance }
-    ensures value { let s = unpacked.now.setting in let w = suc s.v in let kind = s.table.kind in let table = s.table.bytes.now in result ≡ first_failing (pair_rest w kind table liquid.temperature liquid.density vapour pressure_tolerance gibbs_tolerance) (Ok (handed_out (pressure w kind table (exact_of liquid.temperature) (exact_of vapour)))) }
+    requires { WorkablePair unpacked.now.setting.table.kind liquid vapour tolerances.pressure tolerances.gibbs }
+    ensures value { let s = unpacked.now.setting in let w = suc s.v in let kind = s.table.kind in let table = s.table.bytes.now in result ≡ first_failing (pair_rest w kind table liquid.temperature liquid.density vapour tolerances.pressure tolerances.gibbs) (Ok (handed_out (pressure w kind table (exact_of liquid.temperature) (exact_of vapour)))) }
     ensures answer_numbers { AnswerNumbers result }
 {
     let setting = unpacked.setting;
@@ -120,17 +106,7 @@ fn pair_worked(
     );
     let gap = equation::pressure_gap_of(v, l.pressure, g.pressure);
     let gibbs = equation::gibbs_gap_of(v, t, liquid.density, vapour, l.sums, g.sums);
-    pairs::judged(
-        setting.table.kind,
-        l.pressure,
-        g.pressure,
-        gap,
-        gibbs,
-        l.stiffness,
-        g.stiffness,
-        pressure_tolerance,
-        gibbs_tolerance,
-    )
+    pairs::judged(setting.table.kind, l, g, gap, gibbs, tolerances)
 }
 
 pub fn state_sheet(unpacked: &Unpacked, state: State) -> Result<StateSheet, Refusal>
@@ -166,27 +142,14 @@ pub fn pair_check(
     unpacked: &Unpacked,
     liquid: State,
     vapour: f64,
-    pressure_tolerance: f64,
-    gibbs_tolerance: f64,
+    tolerances: Tolerances,
 ) -> Result<Ends, Rejection>
-    ensures value { let s = unpacked.now.setting in let w = suc s.v in let kind = s.table.kind in let table = s.table.bytes.now in result ≡ first_failing (pair_inputs w kind table liquid.temperature liquid.density vapour pressure_tolerance gibbs_tolerance) (Ok (handed_out (pressure w kind table (exact_of liquid.temperature) (exact_of vapour)))) }
+    ensures value { let s = unpacked.now.setting in let w = suc s.v in let kind = s.table.kind in let table = s.table.bytes.now in result ≡ first_failing (pair_inputs w kind table liquid.temperature liquid.density vapour tolerances.pressure tolerances.gibbs) (Ok (handed_out (pressure w kind table (exact_of liquid.temperature) (exact_of vapour)))) }
     ensures answer_numbers { AnswerNumbers result }
 {
     let setting = unpacked.setting;
-    if !pair_passes(
-        setting.table.kind,
-        liquid,
-        vapour,
-        pressure_tolerance,
-        gibbs_tolerance,
-    ) {
-        return pairs::screened(setting, liquid, vapour, pressure_tolerance, gibbs_tolerance);
+    if !pair_passes(setting.table.kind, liquid, vapour, tolerances) {
+        return pairs::screened(setting, liquid, vapour, tolerances);
     }
-    pair_worked(
-        unpacked,
-        liquid,
-        vapour,
-        pressure_tolerance,
-        gibbs_tolerance,
-    )
+    pair_worked(unpacked, liquid, vapour, tolerances)
 }

@@ -3,7 +3,7 @@
 // Nothing here writes to the lent table.
 #![tactic(auto)]
 
-use verdict::{Ends, Refusal, Rejection, State, StateSheet};
+use verdict::{Ends, Refusal, Rejection, State, StateSheet, Tolerances};
 
 mod unpacked; // unpacked.rt: a table's terms by value
 mod powers; // powers.rt: the powers of a bracket
@@ -19,13 +19,13 @@ mod slice; // slice.rt: the slice of terms, lent by the caller or this crate's o
 pub use own::{density_check, pair_check, state_sheet};
 pub use slice::ask;
 
-// What is asked: the state sheet; the density check with its target and tolerance; the pair check with its vapour and both tolerances.
+// What is asked: the state sheet; the density check with its target and tolerance; the pair check with its vapour and tolerances.
 // Stays: an enum and no trait or closures, since `Stated` (specs/Lent.antt), `lent-settled` (proofs/Same.antt) and `LentCalled` (panel) speak of any question.
 #[derive(Clone, Copy)]
 pub enum Question {
     Sheet(State),
     Density(State, f64, f64),
-    Pair(State, f64, f64, f64),
+    Pair(State, f64, Tolerances),
 }
 
 // What is replied: that the slice is too short, or what the plain engine answers.

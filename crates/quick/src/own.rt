@@ -7,7 +7,7 @@ ghost use Rattle.quick.specs.Reading.{IsSheet, IsCheck};
 
 use crate::slice::ask_own;
 use crate::{Question, Reply};
-use verdict::{Ends, Refusal, Rejection, State, StateSheet};
+use verdict::{Ends, Refusal, Rejection, State, StateSheet, Tolerances};
 
 // The answer in a reply to the state sheet's question.
 fn sheet_in(reply: Reply) -> Result<StateSheet, Refusal>
@@ -61,13 +61,12 @@ pub fn pair_check(
     table: &[u8],
     liquid: State,
     vapour: f64,
-    pressure_tolerance: f64,
-    gibbs_tolerance: f64,
+    tolerances: Tolerances,
 ) -> Result<Ends, Rejection>
-    ensures pair_stated { PairStated width kind table.now liquid.temperature liquid.density vapour pressure_tolerance gibbs_tolerance result }
+    ensures pair_stated { PairStated width kind table.now liquid.temperature liquid.density vapour tolerances.pressure tolerances.gibbs result }
     ensures answer_numbers { AnswerNumbers result }
     ensures table_stays { table.exit.now ≡ table.entry.now }
 {
-    let question = Question::Pair(liquid, vapour, pressure_tolerance, gibbs_tolerance);
+    let question = Question::Pair(liquid, vapour, tolerances);
     check_in(ask_own(width, kind, table, question))
 }

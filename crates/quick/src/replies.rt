@@ -16,7 +16,7 @@ impl Question {
         match self {
             Question::Sheet(_) => Reply::Sheet(Err(why)),
             Question::Density(_, _, _) => Reply::Check(Err(Rejection::Refused(why))),
-            Question::Pair(_, _, _, _) => Reply::Check(Err(Rejection::Refused(why))),
+            Question::Pair(_, _, _) => Reply::Check(Err(Rejection::Refused(why))),
         }
     }
 }
@@ -35,14 +35,8 @@ pub fn quick(unpacked: &Unpacked, question: Question) -> Reply
             let answer = answers::density_check(unpacked, state, target, tolerance);
             Reply::Check(answer)
         }
-        Question::Pair(state, vapour, pressure_tolerance, gibbs_tolerance) => {
-            let answer = answers::pair_check(
-                unpacked,
-                state,
-                vapour,
-                pressure_tolerance,
-                gibbs_tolerance,
-            );
+        Question::Pair(state, vapour, tolerances) => {
+            let answer = answers::pair_check(unpacked, state, vapour, tolerances);
             Reply::Check(answer)
         }
     }

@@ -25,6 +25,13 @@ pub struct State {
     pub density: f64,
 }
 
+// How far the two phases of a pair may lie apart: in pressure in Pa, in Gibbs energy in J/kg.
+#[derive(Clone, Copy)]
+pub struct Tolerances {
+    pub pressure: f64,
+    pub gibbs: f64,
+}
+
 // A bracket as it is handed out.
 #[derive(Clone, Copy)]
 pub struct Ends {

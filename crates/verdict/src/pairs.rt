@@ -11,8 +11,8 @@ ghost use Rattle.verdict.specs.Statement.{PairStated};
 ghost use Rattle.verdict.specs.Handed.{Handy, WorkablePair};
 
 use crate::handed::{gap_passes, handed_out, pushes_back, under_ceiling};
-use crate::phases::phase_of;
-use crate::{Ends, Refusal, Rejection, Setting, State};
+use crate::phases::{Phase, phase_of};
+use crate::{Ends, Refusal, Rejection, Setting, State, Tolerances};
 use bracket::Bracket;
 use doubles::range;
 
@@ -22,10 +22,10 @@ pub fn accepts_densities(kind: u64, liquid: f64, vapour: f64) -> bool
     range::accepts_density(kind, liquid) && range::accepts_density(kind, vapour)
 }
 
-pub fn accepts_tolerances(pressure: f64, gibbs: f64) -> bool
-    ensures { result ≡ (accepted_tolerance pressure && accepted_tolerance gibbs) }
+pub fn accepts_tolerances(tolerances: Tolerances) -> bool
+    ensures { result ≡ (accepted_tolerance tolerances.pressure && accepted_tolerance tolerances.gibbs) }
 {
-    range::accepts_tolerance(pressure) && range::accepts_tolerance(gibbs)
+    range::accepts_tolerance(tolerances.pressure) && range::accepts_tolerance(tolerances.gibbs)
 }
 
 #[tactic(auto, unfolding(crate::specs::Rules::on_sides))]
@@ -68,30 +68,29 @@ fn balanced(
     Ok(handed_out(q))
 }
 
-// 8, 21 and 9, by the brackets of the two pressures and of their gap, and what follows.
+// 8, 21 and 9, by the liquid, the vapour and the gap of their pressures, and what follows.
 pub fn judged(
     kind: u64,
-    p: Bracket,
-    q: Bracket,
+    l: Phase,
+    g: Phase,
     gap: Bracket,
     gibbs: Bracket,
-    l: Bracket,
-    v: Bracket,
-    pressure_tolerance: f64,
-    gibbs_tolerance: f64,
+    tolerances: Tolerances,
 ) -> Result<Ends, Rejection>
-    requires { (((Handy p × Handy q) × (Handy gap × Handy gibbs)) × (Handy l × Handy v)) × (T (finite pressure_tolerance) × T (finite gibbs_tolerance)) }
-    ensures value { result ≡ first_failing (pair_worked kind p q gap pressure_tolerance (balance_worked gibbs l v gibbs_tolerance)) (Ok (handed_out q)) }
+    requires { (((Handy l.pressure × Handy g.pressure) × (Handy gap × Handy gibbs)) × (Handy l.stiffness × Handy g.stiffness)) × (T (finite tolerances.pressure) × T (finite tolerances.gibbs)) }
+    ensures value { result ≡ first_failing (pair_worked kind l.pressure g.pressure gap tolerances.pressure (balance_worked gibbs l.stiffness g.stiffness tolerances.gibbs)) (Ok (handed_out g.pressure)) }
     ensures answer_numbers { AnswerNumbers result }
 {
+    let p = l.pressure;
+    let q = g.pressure;
     Refusal::Ceiling.unless(both_under_ceiling(kind, p, q))?;
     if !pushes_back(q) {
         return Err(Rejection::VapourPressure(handed_out(q)));
     }
-    if !gap_passes(gap, pressure_tolerance) {
+    if !gap_passes(gap, tolerances.pressure) {
         return Err(Rejection::PressureGap(handed_out(gap)));
     }
-    balanced(gibbs, l, v, gibbs_tolerance, q)
+    balanced(gibbs, l.stiffness, g.stiffness, tolerances.gibbs, q)
 }
 
 // Each phase is worked out once, in one pass over the table.
@@ -99,11 +98,10 @@ fn worked(
     setting: Setting,
     liquid: State,
     vapour: f64,
-    pressure_tolerance: f64,
-    gibbs_tolerance: f64,
+    tolerances: Tolerances,
 ) -> Result<Ends, Rejection>
-    requires { WorkablePair setting.table.kind liquid vapour pressure_tolerance gibbs_tolerance }
-    ensures value { result ≡ first_failing (pair_rest (suc setting.entry.v) setting.entry.table.kind setting.entry.table.bytes.now liquid.temperature liquid.density vapour pressure_tolerance gibbs_tolerance) (Ok (handed_out (pressure (suc setting.entry.v) setting.entry.table.kind setting.entry.table.bytes.now (exact_of liquid.temperature) (exact_of vapour)))) }
+    requires { WorkablePair setting.table.kind liquid vapour tolerances.pressure tolerances.gibbs }
+    ensures value { result ≡ first_failing (pair_rest (suc setting.entry.v) setting.entry.table.kind setting.entry.table.bytes.now liquid.temperature liquid.density vapour tolerances.pressure tolerances.gibbs) (Ok (handed_out (pressure (suc setting.entry.v) setting.entry.table.kind setting.entry.table.bytes.now (exact_of liquid.temperature) (exact_of vapour)))) }
     ensures answer_numbers { AnswerNumbers result }
 {
     let v = setting.v;
@@ -118,17 +116,7 @@ fn worked(
     );
     let gap = equation::pressure_gap_of(v, l.pressure, g.pressure);
     let gibbs = equation::gibbs_gap_of(v, t, liquid.density, vapour, l.sums, g.sums);
-    judged(
-        setting.table.kind,
-        l.pressure,
-        g.pressure,
-        gap,
-        gibbs,
-        l.stiffness,
-        g.stiffness,
-        pressure_tolerance,
-        gibbs_tolerance,
-    )
+    judged(setting.table.kind, l, g, gap, gibbs, tolerances)
 }
 
 // 3, 4, 6 and 7, and what follows.
@@ -136,18 +124,17 @@ pub fn screened(
     setting: Setting,
     liquid: State,
     vapour: f64,
-    pressure_tolerance: f64,
-    gibbs_tolerance: f64,
+    tolerances: Tolerances,
 ) -> Result<Ends, Rejection>
-    ensures value { result ≡ first_failing (pair_inputs (suc setting.entry.v) setting.entry.table.kind setting.entry.table.bytes.now liquid.temperature liquid.density vapour pressure_tolerance gibbs_tolerance) (Ok (handed_out (pressure (suc setting.entry.v) setting.entry.table.kind setting.entry.table.bytes.now (exact_of liquid.temperature) (exact_of vapour)))) }
+    ensures value { result ≡ first_failing (pair_inputs (suc setting.entry.v) setting.entry.table.kind setting.entry.table.bytes.now liquid.temperature liquid.density vapour tolerances.pressure tolerances.gibbs) (Ok (handed_out (pressure (suc setting.entry.v) setting.entry.table.kind setting.entry.table.bytes.now (exact_of liquid.temperature) (exact_of vapour)))) }
     ensures answer_numbers { AnswerNumbers result }
 {
     let kind = setting.table.kind;
     Refusal::Temperature.unless(range::accepts_pair_temperature(liquid.temperature))?;
     Refusal::Density.unless(accepts_densities(kind, liquid.density, vapour))?;
-    Refusal::Tolerance.unless(accepts_tolerances(pressure_tolerance, gibbs_tolerance))?;
+    Refusal::Tolerance.unless(accepts_tolerances(tolerances))?;
     Refusal::Sides.unless(on_sides(liquid.density, vapour))?;
-    worked(setting, liquid, vapour, pressure_tolerance, gibbs_tolerance)
+    worked(setting, liquid, vapour, tolerances)
 }
 
 pub fn pair_check(
@@ -156,13 +143,12 @@ pub fn pair_check(
     table: &[u8],
     liquid: State,
     vapour: f64,
-    pressure_tolerance: f64,
-    gibbs_tolerance: f64,
+    tolerances: Tolerances,
 ) -> Result<Ends, Rejection>
-    ensures pair_stated { PairStated width kind table.now liquid.temperature liquid.density vapour pressure_tolerance gibbs_tolerance result }
+    ensures pair_stated { PairStated width kind table.now liquid.temperature liquid.density vapour tolerances.pressure tolerances.gibbs result }
     ensures answer_numbers { AnswerNumbers result }
     ensures table_stays { table.exit.now ≡ table.entry.now }
 {
     let setting = Setting::check(width, kind, table)?;
-    screened(setting, liquid, vapour, pressure_tolerance, gibbs_tolerance)
+    screened(setting, liquid, vapour, tolerances)
 }

@@ -40,14 +40,14 @@ worked-requires c =
     let a = c.args in
     let kind = a.setting.table.kind in
     let d = both (accepted_density kind a.liquid.density) (accepted_density kind a.vapour) (passed c.accepts_densities.ensures c.in_ok-unless-2.ensures) in
-    let near = both (accepted_tolerance a.pressure_tolerance) (accepted_tolerance a.gibbs_tolerance) (passed c.accepts_tolerances.ensures c.in_ok-unless-3.ensures) in
+    let near = both (accepted_tolerance a.tolerances.pressure) (accepted_tolerance a.tolerances.gibbs) (passed c.accepts_tolerances.ensures c.in_ok-unless-3.ensures) in
     let apart = sides a.liquid.density a.vapour (passed c.on_sides.ensures c.in_ok-unless-4.ensures) in
     record {
       temperature = above-triple_point kind a.liquid.temperature (passed c.accepts_pair_temperature.ensures c.in_ok-unless.ensures);
       liquid_density = holds d.0;
       vapour_density = holds d.1;
-      pressure-tolerance = tolerance_finite a.pressure_tolerance (holds near.0);
-      gibbs-tolerance = tolerance_finite a.gibbs_tolerance (holds near.1);
+      pressure-tolerance = tolerance_finite a.tolerances.pressure (holds near.0);
+      gibbs-tolerance = tolerance_finite a.tolerances.gibbs (holds near.1);
       above = ≺→≼ (≺-trans apart.1 apart.0);
     }
 
