@@ -7,7 +7,6 @@
 mod answer;
 
 ghost use Rattle.std.specs.Io.{ReadsAtMost};
-ghost use Rattle.line.specs.Line.{Within};
 
 use answer::{answer_line, cut_line};
 use line::Line;
@@ -88,8 +87,6 @@ fn answer_one<R: Read, W: Write>(
     Ok(true)
 }
 
-fn write_line<W: Write>(output: &mut W, line: Line) -> io::Result<()>
-    requires { Within line }
-{
+fn write_line<W: Write>(output: &mut W, line: Line) -> io::Result<()> {
     output.write_all(line.text())
 }

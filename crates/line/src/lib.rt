@@ -22,11 +22,11 @@ pub struct Line {
 }
 
 impl Line {
+    // The bytes that stand there.
     pub fn text(&self) -> &[u8]
-        requires { Within self.now }
         ensures { result.now ≡ take self.now.len self.now.bytes }
     {
-        &self.bytes[..self.len]
+        self.bytes.get(..self.len).unwrap_or(&self.bytes)
     }
 }
 

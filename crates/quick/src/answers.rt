@@ -51,7 +51,7 @@ fn phase(setting: Setting, ready: Ready, state: State) -> Phase
     ensures { result ≡ phase_of (suc setting.entry.v) setting.entry.table.kind setting.entry.table.bytes.now (exact_of state.temperature) (exact_of state.density) }
 {
     let sums = sums_of(setting, ready, state.density);
-    Phase::of(setting, state, sums)
+    Phase::of(setting.v, state, sums)
 }
 
 // One phase by the table's terms.

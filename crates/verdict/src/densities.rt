@@ -52,7 +52,7 @@ pub fn screened(
     Refusal::Density.unless(range::accepts_density(kind, state.density))?;
     Refusal::Target.unless(range::accepts_target(kind, target))?;
     Refusal::Tolerance.unless(range::accepts_tolerance(tolerance))?;
-    let phase = phase_of(setting, state);
+    let phase = phase_of(setting.v, setting.table, state);
     let gap = equation::target_gap_of(setting.v, phase.pressure, target);
     worked(kind, phase.pressure, gap, phase.stiffness, tolerance)
 }

@@ -106,9 +106,10 @@ fn worked(
 {
     let v = setting.v;
     let t = liquid.temperature;
-    let l = phase_of(setting, liquid);
+    let l = phase_of(v, setting.table, liquid);
     let g = phase_of(
-        setting,
+        v,
+        setting.table,
         State {
             temperature: t,
             density: vapour,

@@ -1,12 +1,14 @@
 // One phase, worked out in a single pass over the table: its sums, its pressure and its stiffness.
 ghost use Rattle.std.specs.Prelude.{◌≡◌, suc};
+ghost use Rattle.sheet.specs.Range.{Width};
 ghost use Rattle.doubles.specs.Double.{exact_of};
 ghost use Rattle.verdict.specs.Worked.{phase_of};
 ghost use Rattle.verdict.specs.Handed.{Workable};
 
-use crate::{Setting, State};
+use crate::State;
 use bracket::Bracket;
 use equation::Sums;
+use term::SoundTable;
 
 #[derive(Clone, Copy)]
 pub struct Phase {
@@ -16,15 +18,17 @@ pub struct Phase {
 }
 
 impl Phase {
-    ghost use Rattle.equation.specs.Rules.{sums};
+    ghost use Rattle.std.specs.Prelude.{T};
+    ghost use Rattle.kind.specs.Kind.{widest};
+    ghost use Rattle.doubles.specs.Range.{accepted_temperature, accepted_density};
+    ghost use Rattle.equation.specs.Rules.{pressure_of, stiffness_of};
+    ghost use Rattle.equation.specs.Ranged.{SumsIn};
 
-    // By the state's sums.
-    pub fn of(setting: Setting, state: State, s: Sums) -> Phase
-        requires workable { Workable setting.table.kind state }
-        requires summed { s ≡ sums (suc setting.v) setting.table.kind setting.table.bytes.now (exact_of state.temperature) (exact_of state.density) }
-        ensures { result ≡ phase_of (suc setting.entry.v) setting.entry.table.kind setting.entry.table.bytes.now (exact_of state.temperature) (exact_of state.density) }
+    // By the sums at a state.
+    pub fn of(v: u64, state: State, s: Sums) -> Phase
+        requires { (T (accepted_temperature widest state.temperature) × T (accepted_density widest state.density)) × SumsIn v s }
+        ensures { result ≡ record { sums = s; pressure = pressure_of (suc v) (exact_of state.temperature) (exact_of state.density) s; stiffness = stiffness_of (suc v) (exact_of state.temperature) s } }
     {
-        let v = setting.v;
         let t = state.temperature;
         let pressure = equation::pressure_of(v, t, state.density, s);
         let stiffness = equation::stiffness_of(v, t, s);
@@ -36,10 +40,11 @@ impl Phase {
     }
 }
 
-pub fn phase_of(setting: Setting, state: State) -> Phase
-    requires { Workable setting.table.kind state }
-    ensures { result ≡ phase_of (suc setting.entry.v) setting.entry.table.kind setting.entry.table.bytes.now (exact_of state.temperature) (exact_of state.density) }
+pub fn phase_of(v: u64, table: SoundTable, state: State) -> Phase
+    requires { Width v × Workable table.kind state }
+    ensures { result ≡ phase_of (suc v) table.entry.kind table.entry.bytes.now (exact_of state.temperature) (exact_of state.density) }
 {
-    let sums = equation::sums_of(setting.v, setting.table, state.temperature, state.density);
-    Phase::of(setting, state, sums)
+    let t = state.temperature;
+    let sums = equation::sums_of(v, table, t, state.density);
+    Phase::of(v, state, sums)
 }

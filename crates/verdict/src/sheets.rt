@@ -35,7 +35,7 @@ pub fn screened(setting: Setting, state: State) -> Result<StateSheet, Refusal>
     let kind = setting.table.kind;
     Refusal::Temperature.unless(range::accepts_temperature(kind, state.temperature))?;
     Refusal::Density.unless(range::accepts_density(kind, state.density))?;
-    let phase = phase_of(setting, state);
+    let phase = phase_of(setting.v, setting.table, state);
     worked(kind, phase.pressure, phase.stiffness)
 }
 

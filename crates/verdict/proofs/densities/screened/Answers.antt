@@ -34,7 +34,7 @@ returns-in_err-unless-4 c =
 
 pub phase_of-phase-requires : goal.phase_of-phase-requires
 phase_of-phase-requires c =
-    record { temperature = holds (passed c.accepts_temperature.ensures c.in_ok-unless.ensures); density = holds (passed c.accepts_density.ensures c.in_ok-unless-2.ensures) }
+    (width_of _ c.args.setting.width_sound, record { temperature = holds (passed c.accepts_temperature.ensures c.in_ok-unless.ensures); density = holds (passed c.accepts_density.ensures c.in_ok-unless-2.ensures) })
 
 pub target_gap_of-gap-requires : goal.target_gap_of-gap-requires
 unfolding phase_of

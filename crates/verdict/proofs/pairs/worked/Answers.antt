@@ -11,12 +11,12 @@ use Rattle.verdict.proofs.pairs.worked.Goals as goal
 pub phase_of-l-requires : goal.phase_of-l-requires
 phase_of-l-requires c =
     let p = c.requires in
-    record { temperature = p.temperature; density = p.liquid_density }
+    (width_of _ c.args.setting.width_sound, record { temperature = p.temperature; density = p.liquid_density })
 
 pub phase_of-g-requires : goal.phase_of-g-requires
 phase_of-g-requires c =
     let p = c.requires in
-    record { temperature = p.temperature; density = p.vapour_density }
+    (width_of _ c.args.setting.width_sound, record { temperature = p.temperature; density = p.vapour_density })
 
 pub pressure_gap_of-gap-requires : goal.pressure_gap_of-gap-requires
 unfolding phase_of
