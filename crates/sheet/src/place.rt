@@ -99,15 +99,23 @@ pub fn signed(neg: bool, m: u64, e: u64) -> Sheet
 }
 
 // Digits of the spelling are rounded: one more where something was cut and the direction goes away from zero.
+// Stays: no `up != neg`, of which the compiler made a jump that is often guessed wrong; so the direction is asked first, then the sign.
 fn finished(v: u64, up: bool, neg: bool, x: Found) -> Sheet
     requires { Width v × (x.m < 2 ^ suc v) × (x.e < 2 ^ 63) }
     ensures { result ≡ signed neg (finish (away up neg) x.sticky (suc v) (record { m = x.m; e = x.e })) }
 {
-    if x.sticky && up != neg {
-        next(v, neg, x.m, x.e)
-    } else {
-        signed(neg, x.m, x.e)
+    if x.sticky {
+        if up {
+            if neg {
+                return signed(neg, x.m, x.e);
+            }
+            return next(v, neg, x.m, x.e);
+        }
+        if neg {
+            return next(v, neg, x.m, x.e);
+        }
     }
+    signed(neg, x.m, x.e)
 }
 
 // The same where no digit is missing, so that there is no zero to look for.
