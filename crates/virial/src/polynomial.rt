@@ -37,9 +37,9 @@ pub fn coefficients_of(setting: Setting, t: f64) -> Coefficients
 {
     let v = setting.v;
     let tau = equation::tau(v, t);
-    let first = sum_over(v, Pick::First, setting.table, tau);
-    let second = sum_over(v, Pick::Second, setting.table, tau);
-    let damped = sum_over(v, Pick::FirstDamped, setting.table, tau);
+    let first = sum_over::<38>(v, Pick::First, setting.table, tau);
+    let second = sum_over::<38>(v, Pick::Second, setting.table, tau);
+    let damped = sum_over::<38>(v, Pick::FirstDamped, setting.table, tau);
     Coefficients {
         second: second_of(v, first),
         third: third_of(v, second, damped),

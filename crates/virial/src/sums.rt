@@ -30,13 +30,31 @@ fn addend(v: u64, term: Term, tau: Bracket) -> Bracket
     bracket::product(v, coefficient, bracket::power(v, tau, term.t))
 }
 
-// The sum with the k-th term's addend, where it is taken.
-fn add_term(v: u64, pick: Pick, table: SoundTable, k: usize, tau: Bracket, s: Bracket) -> Bracket
+// The k-th term. The compiler knows its kind, so that of a term which a sum passes over no more than c and d are read.
+fn kth<const KIND: u64>(table: SoundTable, k: usize) -> Term
     requires k_below { k < count_terms table.kind table.bytes.now }
+    requires kind { table.kind ≡ KIND }
+    ensures value { result ≡ term_at table.entry.kind table.entry.bytes.now k }
+    ensures bounds { Bounds result }
+{
+    term::term_at(KIND, table.bytes, k)
+}
+
+// The sum with the k-th term's addend, where it is taken.
+fn add_term<const KIND: u64>(
+    v: u64,
+    pick: Pick,
+    table: SoundTable,
+    k: usize,
+    tau: Bracket,
+    s: Bracket,
+) -> Bracket
+    requires k_below { k < count_terms table.kind table.bytes.now }
+    requires kind { table.kind ≡ KIND }
     requires tau_in { TauIn v tau × Held v s }
     ensures { result ≡ with_term (suc v) pick (term_at table.entry.kind table.entry.bytes.now k) tau s }
 {
-    let term = table.at(k);
+    let term = kth::<KIND>(table, k);
     if picks(pick, term) {
         bracket::sum(v, s, addend(v, term, tau))
     } else {
@@ -44,14 +62,15 @@ fn add_term(v: u64, pick: Pick, table: SoundTable, k: usize, tau: Bracket, s: Br
     }
 }
 
-pub fn sum_over(v: u64, pick: Pick, table: SoundTable, tau: Bracket) -> Bracket
-    requires { TauIn v tau }
+pub fn sum_over<const KIND: u64>(v: u64, pick: Pick, table: SoundTable, tau: Bracket) -> Bracket
+    requires tau_in { TauIn v tau }
+    requires kind { table.kind ≡ KIND }
     ensures { result ≡ sum_first (suc v) pick (term_at table.entry.kind table.entry.bytes.now) tau (count_terms table.entry.kind table.entry.bytes.now) }
 {
     let count = table.count();
     let mut s = bracket::whole(v, 0);
     for i in 0..count {
-        s = add_term(v, pick, table, i, tau, s);
+        s = add_term::<KIND>(v, pick, table, i, tau, s);
     }
     s
 }

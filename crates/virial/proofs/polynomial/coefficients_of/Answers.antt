@@ -39,13 +39,13 @@ pub tau-tau-requires : goal.tau-tau-requires
 tau-tau-requires c = (width_of _ c.args.setting.width_sound, c.requires.1)
 
 pub sum_over-first-requires : goal.sum_over-first-requires
-sum_over-first-requires c = ranged c.args.setting c.args.t c.requires.1 c.tau-tau.ensures
+sum_over-first-requires c = record { tau_in = ranged c.args.setting c.args.t c.requires.1 c.tau-tau.ensures; kind = c.requires.0 }
 
 pub sum_over-second-requires : goal.sum_over-second-requires
-sum_over-second-requires c = ranged c.args.setting c.args.t c.requires.1 c.tau-tau.ensures
+sum_over-second-requires c = record { tau_in = ranged c.args.setting c.args.t c.requires.1 c.tau-tau.ensures; kind = c.requires.0 }
 
 pub sum_over-damped-requires : goal.sum_over-damped-requires
-sum_over-damped-requires c = ranged c.args.setting c.args.t c.requires.1 c.tau-tau.ensures
+sum_over-damped-requires c = record { tau_in = ranged c.args.setting c.args.t c.requires.1 c.tau-tau.ensures; kind = c.requires.0 }
 
 pub second_of-requires : goal.second_of-requires
 second_of-requires c =

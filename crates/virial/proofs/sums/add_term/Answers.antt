@@ -9,21 +9,21 @@ use Rattle.virial.proofs.Holds.{addend-held}
 use Rattle.virial.proofs.sums.add_term.Goals as goal
 
 pub addend-requires : goal.addend-requires
-addend-requires c = (c.at-term.ensures.bounds, c.requires.tau_in.0)
+addend-requires g c = (c.kth-term.ensures.bounds, c.requires.tau_in.0)
 
 pub sum-requires : goal.sum-requires
-sum-requires c =
-    (c.requires.tau_in.1, held-is c.addend.ensures (addend-held c.args.tau c.requires.tau_in.0 _ c.at-term.ensures.bounds))
+sum-requires g c =
+    (c.requires.tau_in.1, held-is c.addend.ensures (addend-held c.args.tau c.requires.tau_in.0 _ c.kth-term.ensures.bounds))
 
 pub returns-then-picks : goal.returns-then-picks
-returns-then-picks c =
+returns-then-picks g c =
     let a = c.args in
     plus-of _ refl c.addend.ensures c.sum.ensures
     ∙ with_term-taken (suc a.v) a.pick _ a.tau a.s (sym c.picks.ensures ∙ c.if-picks.true)
-    ∙ ap (λ (x : Term). with_term (suc a.v) a.pick x a.tau a.s) c.at-term.ensures.value
+    ∙ ap (λ (x : Term). with_term (suc a.v) a.pick x a.tau a.s) c.kth-term.ensures.value
 
 pub returns-else-picks : goal.returns-else-picks
-returns-else-picks c =
+returns-else-picks g c =
     let a = c.args in
     with_term-left (suc a.v) a.pick _ a.tau a.s (sym c.picks.ensures ∙ c.if-picks.false)
-    ∙ ap (λ (x : Term). with_term (suc a.v) a.pick x a.tau a.s) c.at-term.ensures.value
+    ∙ ap (λ (x : Term). with_term (suc a.v) a.pick x a.tau a.s) c.kth-term.ensures.value

@@ -6,4 +6,4 @@ use Rattle.virial.specs.Sums.{sum_first}
 use Rattle.virial.proofs.sums.sum_over.Given as goal
 
 abbrev pub invariant-loop-i : goal.invariant-loop-i
-invariant-loop-i l = l.s ≡ sum_first (suc l.v) l.pick (term_at l.table.kind l.table.bytes.now) l.tau l.i
+invariant-loop-i g l = l.s ≡ sum_first (suc l.v) l.pick (term_at l.table.kind l.table.bytes.now) l.tau l.i
