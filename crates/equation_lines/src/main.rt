@@ -38,6 +38,8 @@ struct State<'a> {
 
 impl<'a> State<'a> {
     fn accepted(width: u64, kind: u64, bytes: &'a [u8], t: f64, rho: f64) -> Option<Self> {
+        // First, so that what is no width costs no check of the table.
+        words::digits_of(width)?;
         let table = SoundTable::check(kind, bytes).ok()?;
         if !doubles::range::accepts_temperature(58, t)
             || !doubles::range::accepts_density(58, rho)
