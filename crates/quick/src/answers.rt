@@ -50,7 +50,7 @@ fn phase(setting: Setting, ready: Ready, state: State) -> Phase
     requires { Workable setting.table.kind state × (ReadyFor (suc setting.v) setting.table.kind setting.table.bytes.now ready × (ready.t ≡ state.temperature)) }
     ensures { result ≡ phase_of (suc setting.entry.v) setting.entry.table.kind setting.entry.table.bytes.now (exact_of state.temperature) (exact_of state.density) }
 {
-    let sums = sums_of(setting, ready, state.density);
+    let sums = sums_of(setting.v, setting.table, ready, state.density);
     Phase::of(setting.v, state, sums)
 }
 
@@ -59,8 +59,9 @@ fn phase_of(unpacked: &Unpacked, state: State) -> Phase
     requires { Workable unpacked.now.setting.table.kind state }
     ensures { let s = unpacked.now.setting in result ≡ phase_of (suc s.v) s.table.kind s.table.bytes.now (exact_of state.temperature) (exact_of state.density) }
 {
-    let ready = made_ready(unpacked, state.temperature);
-    phase(unpacked.setting, ready, state)
+    let setting = unpacked.setting;
+    let ready = made_ready(setting.v, setting.table, &unpacked.list, state.temperature);
+    phase(setting, ready, state)
 }
 
 // 8, 9 and 11 of the density check.
@@ -94,7 +95,7 @@ fn pair_worked(
     let setting = unpacked.setting;
     let v = setting.v;
     let t = liquid.temperature;
-    let ready = made_ready(unpacked, t);
+    let ready = made_ready(v, setting.table, &unpacked.list, t);
     let l = phase(setting, ready, liquid);
     let g = phase(
         setting,

@@ -1,5 +1,6 @@
 // The three sums at one density: one pass over the rows, from zero, left to right.
 ghost use Rattle.std.specs.Prelude.{◌≡◌, suc, T};
+ghost use Rattle.sheet.specs.Range.{Width};
 ghost use Rattle.kind.specs.Kind.{widest};
 ghost use Rattle.doubles.specs.Double.{exact_of};
 ghost use Rattle.doubles.specs.Range.{accepted_temperature, accepted_density};
@@ -13,7 +14,7 @@ use crate::powers::{NOTHING, powers};
 use crate::ready::{Ready, Row};
 use bracket::Bracket;
 use equation::Sums;
-use verdict::Setting;
+use term::SoundTable;
 
 // The sums with a row's addends, by its power of delta and what is kept for it.
 // Stays: not by the equation's `plus_each`: all is done here and nothing is handed on whole, so the sums of the pass stay scalars.
@@ -40,12 +41,12 @@ fn add_row(
 
 // What the terms share is kept at the first place that has it.
 // Stays: four arrays and not one of `Kept`: a product reads a bracket where it lies, and not out of a whole copied from its place.
-pub fn sums_of(setting: Setting, ready: Ready, rho: f64) -> Sums
-    requires ready_for { ReadyFor (suc setting.v) setting.table.kind setting.table.bytes.now ready }
+pub fn sums_of(v: u64, table: SoundTable, ready: Ready, rho: f64) -> Sums
+    requires width { Width v }
+    requires ready_for { ReadyFor (suc v) table.kind table.bytes.now ready }
     requires accepted { T (accepted_temperature widest ready.t) × T (accepted_density widest rho) }
-    ensures { result ≡ sums (suc setting.entry.v) setting.entry.table.kind setting.entry.table.bytes.now (exact_of ready.t) (exact_of rho) }
+    ensures { result ≡ sums (suc v) table.entry.kind table.entry.bytes.now (exact_of ready.t) (exact_of rho) }
 {
-    let v = setting.v;
     let deltas = powers(v, equation::delta(v, rho), ready.far);
     let rows = ready.rows;
     let mut gs = [NOTHING; 64];
@@ -53,7 +54,7 @@ pub fn sums_of(setting: Setting, ready: Ready, rho: f64) -> Sums
     let mut ws = [NOTHING; 64];
     let mut factors = [NOTHING; 64];
     let mut s = equation::no_sums(v);
-    for i in 0..setting.table.count() {
+    for i in 0..table.count() {
         let row = rows[i];
         let term = row.term;
         let like = row.like;

@@ -7,14 +7,14 @@ ghost use Rattle.doubles.specs.Range.{accepted_temperature};
 ghost use Rattle.term.specs.Bounds.{Bounds};
 ghost use Rattle.equation.specs.Rules.{coefficient};
 ghost use Rattle.quick.specs.Powers.{nothing};
-ghost use Rattle.quick.specs.Unpacked.{blank, AllBounds};
+ghost use Rattle.quick.specs.Unpacked.{blank, AllBounds, Holds};
 ghost use Rattle.quick.specs.Ready.{Farther, Reaches, RowsTo, ReadyFor};
 
 use crate::keys::{first_like, keys_of};
 use crate::powers::{NOTHING, powers};
-use crate::unpacked::{BLANK, Unpacked};
+use crate::unpacked::BLANK;
 use bracket::Bracket;
-use term::Term;
+use term::{SoundTable, Term};
 
 // A term, its coefficient and tau to the power t; `same` is the first place with its c and factor, `like` the first with its d too.
 #[derive(Clone, Copy)]
@@ -102,12 +102,13 @@ fn rows_of(v: u64, terms: &[Term], taus: &[Bracket; 64]) -> [Row; 64]
 }
 
 // All of it for a table's terms at a temperature.
-pub fn made_ready(unpacked: &Unpacked, t: f64) -> Ready
-    requires { T (accepted_temperature widest t) }
-    ensures { let s = unpacked.now.setting in ReadyFor (suc s.v) s.table.kind s.table.bytes.now result × (result.t ≡ t) }
+pub fn made_ready(v: u64, table: SoundTable, list: &[Term; 64], t: f64) -> Ready
+    requires width { Width v }
+    requires holds { Holds table.kind table.bytes.now list.now }
+    requires t_accepted { T (accepted_temperature widest t) }
+    ensures { ReadyFor (suc v) table.entry.kind table.entry.bytes.now result × (result.t ≡ t) }
 {
-    let v = unpacked.setting.v;
-    let terms = &unpacked.list[..unpacked.setting.table.count()];
+    let terms = &list[..table.count()];
     let far = reach_of(terms);
     let taus = powers(v, equation::tau(v, t), far.t);
     let rows = rows_of(v, terms, &taus);

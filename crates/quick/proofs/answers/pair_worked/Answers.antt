@@ -10,7 +10,8 @@ use Rattle.quick.proofs.answers.pair_worked.Goals as goal
 
 pub made_ready-ready-requires : goal.made_ready-ready-requires
 made_ready-ready-requires c =
-    temperature_widest _ _ c.requires.temperature
+    let u = c.args.unpacked.now in
+    record { width = width_of _ u.setting.width_sound; holds = u.holds; t_accepted = temperature_widest _ _ c.requires.temperature }
 
 pub phase-l-requires : goal.phase-l-requires
 phase-l-requires c =

@@ -9,7 +9,7 @@ use Rattle.quick.proofs.answers.phase.Goals as goal
 pub sums_of-sums-requires : goal.sums_of-sums-requires
 sums_of-sums-requires c =
     let p = c.requires in
-    record { ready_for = p.1.0; accepted = (rw p.1.1 (temperature_widest _ _ p.0.temperature), density_widest _ _ p.0.density) }
+    record { width = width_of _ c.args.setting.width_sound; ready_for = p.1.0; accepted = (rw p.1.1 (temperature_widest _ _ p.0.temperature), density_widest _ _ p.0.density) }
 
 pub of-requires : goal.of-requires
 of-requires c =

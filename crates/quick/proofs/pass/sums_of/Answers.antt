@@ -26,8 +26,6 @@ use Rattle.equation.proofs.Cases.{sums-is}
 use Rattle.equation.proofs.Holds.{delta-in, tau-in, delta-powers}
 use Rattle.equation.proofs.HoldsSums.{first_held}
 use Rattle.equation.proofs.Taken.{temperature_of, density-of}
-use Rattle.verdict.specs.declared.settings.Setting.{Setting}
-use Rattle.verdict.proofs.EitherWidth.{width_of}
 use Rattle.quick.specs.declared.kept.Kept.{Kept}
 use Rattle.quick.specs.declared.ready.Ready.{Ready}
 use Rattle.quick.specs.declared.ready.Row.{Row}
@@ -103,55 +101,50 @@ module _ {v kind : ℕ} {table : List ℕ} {ready : Ready} (rho : Float) (p : Wi
 
 -- ---- the answers
 
--- what the setting and the clause say
-given : (s : Setting) {ready : Ready} → ReadyFor (suc s.v) s.table.kind s.table.bytes.now ready
-    → Width s.v × (sound_table s.table.kind s.table.bytes.now ≡ true) × ReadyFor (suc s.v) s.table.kind s.table.bytes.now ready
-given s r = (width_of _ s.width_sound, s.table.sound, r)
-
 pub delta-requires : goal.delta-requires
-delta-requires c = (width_of _ c.args.setting.width_sound, c.requires.accepted.1)
+delta-requires c = (c.requires.width, c.requires.accepted.1)
 
 pub no_sums-s-requires : goal.no_sums-s-requires
-no_sums-s-requires c = width_of _ c.args.setting.width_sound
+no_sums-s-requires c = c.requires.width
 
 pub powers-deltas-requires : goal.powers-deltas-requires
 powers-deltas-requires c =
     let far = c.requires.ready_for.far_most in
-    (delta-powers _ (delta-is c.args.rho (given c.args.setting c.requires.ready_for) c.requires.accepted c.delta.ensures) _ far, omega (arith, far))
+    (delta-powers _ (delta-is c.args.rho (c.requires.width, c.args.table.sound, c.requires.ready_for) c.requires.accepted c.delta.ensures) _ far, omega (arith, far))
 
 pub loop-i-init : goal.loop-i-init
 loop-i-init c = ((refl, refl, refl, refl), λ k l. absurd (omega arith), c.no_sums-s.ensures ∙ rows_none _ _ _)
 
 pub offset_bounds-rows-i : goal.offset_bounds-rows-i
-offset_bounds-rows-i c = let few = sound-few _ _ c.args.setting.table.sound in record { fits = omega arith }
+offset_bounds-rows-i c = let few = sound-few _ _ c.args.table.sound in record { fits = omega arith }
 
 pub bounds-rows-i : goal.bounds-rows-i
-bounds-rows-i c = let few = sound-few _ _ c.args.setting.table.sound in omega arith
+bounds-rows-i c = let few = sound-few _ _ c.args.table.sound in omega arith
 
 pub kept_for-kept-requires : goal.kept_for-kept-requires
 kept_for-kept-requires c =
     let l = c.loop-i in
-    keepable c.args.rho (given c.args.setting c.requires.ready_for) c.requires.accepted c.delta.ensures _ c.powers-deltas.ensures (omega (arith, c.count-i-end.ensures)) l.gs l.es l.ws l.factors l.invariant.1
+    keepable c.args.rho (c.requires.width, c.args.table.sound, c.requires.ready_for) c.requires.accepted c.delta.ensures _ c.powers-deltas.ensures (omega (arith, c.count-i-end.ensures)) l.gs l.es l.ws l.factors l.invariant.1
 
 pub add_row-s-requires : goal.add_row-s-requires
 add_row-s-requires c =
     let a = c.args in
     let l = c.loop-i in
     let x = c.if-like-i in
-    let inside : l.i < count_terms a.setting.table.kind a.setting.table.bytes.now = omega (arith, c.count-i-end.ensures) in
-    let kept : KeptTo (suc a.setting.v) a.ready.rows c.powers-deltas.result x.gs x.es x.ws x.factors (l.i + 1) =
+    let inside : l.i < count_terms a.table.kind a.table.bytes.now = omega (arith, c.count-i-end.ensures) in
+    let kept : KeptTo (suc a.v) a.ready.rows c.powers-deltas.result x.gs x.es x.ws x.factors (l.i + 1) =
     elim x.branch [
       | then-like-i w ↦
           rw (w.gs-is, w.es-is, w.ws-is, w.factors-is)
-          (kept-more a.rho (given c.args.setting c.requires.ready_for) c.requires.accepted c.delta.ensures _ c.powers-deltas.ensures inside l.gs l.es l.ws l.factors l.invariant.1 l.invariant.0 w.kept_for-kept.result w.kept_for-kept.ensures w.if-like-i.true)
+          (kept-more a.rho (c.requires.width, c.args.table.sound, c.requires.ready_for) c.requires.accepted c.delta.ensures _ c.powers-deltas.ensures inside l.gs l.es l.ws l.factors l.invariant.1 l.invariant.0 w.kept_for-kept.result w.kept_for-kept.ensures w.if-like-i.true)
       | else-like-i w ↦
           rw (w.gs-is, w.es-is, w.ws-is, w.factors-is)
-          (found-more a.rho (given c.args.setting c.requires.ready_for) c.requires.accepted c.delta.ensures _ c.powers-deltas.ensures inside l.gs l.es l.ws l.factors l.invariant.1 w.if-like-i.false)
+          (found-more a.rho (c.requires.width, c.args.table.sound, c.requires.ready_for) c.requires.accepted c.delta.ensures _ c.powers-deltas.ensures inside l.gs l.es l.ws l.factors l.invariant.1 w.if-like-i.false)
     ] in
     let row = get_or a.ready.rows l.i no_row in (
-      subst (λ (k : Kept). Addable a.setting.v row.coefficient (get_or c.powers-deltas.result row.term.d nothing) row.tau k.e k.w k.s2) (sym (kept l.i (omega arith)))
-          (addable a.rho (given c.args.setting c.requires.ready_for) c.requires.accepted c.delta.ensures _ c.powers-deltas.ensures inside),
-      sums-held a.rho (given c.args.setting c.requires.ready_for) c.requires.accepted c.delta.ensures _ c.powers-deltas.ensures l.i (omega (arith, inside)) l.invariant.2,
+      subst (λ (k : Kept). Addable a.v row.coefficient (get_or c.powers-deltas.result row.term.d nothing) row.tau k.e k.w k.s2) (sym (kept l.i (omega arith)))
+          (addable a.rho (c.requires.width, c.args.table.sound, c.requires.ready_for) c.requires.accepted c.delta.ensures _ c.powers-deltas.ensures inside),
+      sums-held a.rho (c.requires.width, c.args.table.sound, c.requires.ready_for) c.requires.accepted c.delta.ensures _ c.powers-deltas.ensures l.i (omega (arith, inside)) l.invariant.2,
     )
 
 pub loop-i-preserved : goal.loop-i-preserved
@@ -159,33 +152,33 @@ loop-i-preserved c =
     let a = c.args in
     let l = c.loop-i in
     let x = c.if-like-i in
-    let inside : l.i < count_terms a.setting.table.kind a.setting.table.bytes.now = omega (arith, c.count-i-end.ensures) in
-    let kept : Full x.gs x.es x.ws x.factors × KeptTo (suc a.setting.v) a.ready.rows c.powers-deltas.result x.gs x.es x.ws x.factors (l.i + 1) =
+    let inside : l.i < count_terms a.table.kind a.table.bytes.now = omega (arith, c.count-i-end.ensures) in
+    let kept : Full x.gs x.es x.ws x.factors × KeptTo (suc a.v) a.ready.rows c.powers-deltas.result x.gs x.es x.ws x.factors (l.i + 1) =
     elim x.branch [
       | then-like-i w ↦
           let f = l.invariant.0 in
           rw (w.gs-is, w.es-is, w.ws-is, w.factors-is) (
             (length-set l.gs l.i _ ∙ f.0, length-set l.es l.i _ ∙ f.1, length-set l.ws l.i _ ∙ f.2, length-set l.factors l.i _ ∙ f.3),
-            kept-more a.rho (given c.args.setting c.requires.ready_for) c.requires.accepted c.delta.ensures _ c.powers-deltas.ensures inside l.gs l.es l.ws l.factors l.invariant.1 f w.kept_for-kept.result w.kept_for-kept.ensures w.if-like-i.true,
+            kept-more a.rho (c.requires.width, c.args.table.sound, c.requires.ready_for) c.requires.accepted c.delta.ensures _ c.powers-deltas.ensures inside l.gs l.es l.ws l.factors l.invariant.1 f w.kept_for-kept.result w.kept_for-kept.ensures w.if-like-i.true,
           )
       | else-like-i w ↦
           rw (w.gs-is, w.es-is, w.ws-is, w.factors-is) (
             l.invariant.0,
-            found-more a.rho (given c.args.setting c.requires.ready_for) c.requires.accepted c.delta.ensures _ c.powers-deltas.ensures inside l.gs l.es l.ws l.factors l.invariant.1 w.if-like-i.false,
+            found-more a.rho (c.requires.width, c.args.table.sound, c.requires.ready_for) c.requires.accepted c.delta.ensures _ c.powers-deltas.ensures inside l.gs l.es l.ws l.factors l.invariant.1 w.if-like-i.false,
           )
     ] in
     let row = get_or a.ready.rows l.i no_row in (
       kept.0,
       kept.1,
       c.add_row-s.ensures
-          ∙ ap₂ (λ (x : Sums) (k : Kept). plus_each (suc a.setting.v) x (addends_by (suc a.setting.v) row.coefficient (get_or c.powers-deltas.result row.term.d nothing) row.tau k.e k.w k.s2)) l.invariant.2 (kept.1 l.i (omega arith))
-          ∙ rows_more (suc a.setting.v) a.ready.rows c.powers-deltas.result l.i,
+          ∙ ap₂ (λ (x : Sums) (k : Kept). plus_each (suc a.v) x (addends_by (suc a.v) row.coefficient (get_or c.powers-deltas.result row.term.d nothing) row.tau k.e k.w k.s2)) l.invariant.2 (kept.1 l.i (omega arith))
+          ∙ rows_more (suc a.v) a.ready.rows c.powers-deltas.result l.i,
     )
 
 pub returns : goal.returns
 returns c =
     let a = c.args in
-    let all : c.loop-i.i ≡ count_terms a.setting.table.kind a.setting.table.bytes.now = omega arith in
+    let all : c.loop-i.i ≡ count_terms a.table.kind a.table.bytes.now = omega arith in
     c.loop-i.invariant.2
-    ∙ ap (sums_rows (suc a.setting.v) a.ready.rows c.powers-deltas.result) all
-    ∙ sums-all a.rho (given c.args.setting c.requires.ready_for) c.requires.accepted c.delta.ensures _ c.powers-deltas.ensures
+    ∙ ap (sums_rows (suc a.v) a.ready.rows c.powers-deltas.result) all
+    ∙ sums-all a.rho (c.requires.width, c.args.table.sound, c.requires.ready_for) c.requires.accepted c.delta.ensures _ c.powers-deltas.ensures
