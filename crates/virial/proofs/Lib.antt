@@ -5,6 +5,7 @@ pub mod Ranges
 pub mod Covers
 pub mod Holds
 pub mod Cases
+pub mod Numbers
 pub mod Doubled
 pub mod Near
 pub mod Weighed

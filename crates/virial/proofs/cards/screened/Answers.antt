@@ -12,7 +12,7 @@ use Rattle.verdict.specs.Rules.{handed_out}
 use Rattle.verdict.proofs.Order.{all_pass, fails-at}
 use Rattle.verdict.proofs.Tests.{holds, passed, failed}
 use Rattle.verdict.proofs.EitherWidth.{width_of}
-use Rattle.verdict.proofs.HandedOut.{zeros-numbers}
+use Rattle.virial.proofs.Numbers.{refused_numbers}
 use Rattle.virial.specs.declared.Coefficients.{Coefficients}
 use Rattle.virial.specs.declared.Card.{Card}
 use Rattle.virial.specs.Rules.{coefficients, pressure_of}
@@ -31,7 +31,7 @@ pub returns-in_err-unless : goal.returns-in_err-unless
 returns-in_err-unless c =
     let p = err_from_is_err_and c.from_residual.result c.from_residual.ensures.1 in
     rw (p.1, p.2, c.in_err-unless.ensures.1)
-    (record { value = sym (fails-at 0 _ _ (failed c.takes_temperature.ensures c.in_err-unless.ensures.0)); card_numbers = (zeros-numbers, zeros-numbers, zeros-numbers) })
+    (record { value = sym (fails-at 0 _ _ (failed c.takes_temperature.ensures c.in_err-unless.ensures.0)); card_numbers = refused_numbers })
 
 pub returns-in_err-unless-2 : goal.returns-in_err-unless-2
 returns-in_err-unless-2 c =
@@ -39,7 +39,7 @@ returns-in_err-unless-2 c =
     rw (p.1, p.2, c.in_err-unless-2.ensures.1)
     (record {
       value = sym (fails-at 1 _ _ (passed c.takes_temperature.ensures c.in_ok-unless.ensures, failed c.takes_density.ensures c.in_err-unless-2.ensures.0));
-      card_numbers = (zeros-numbers, zeros-numbers, zeros-numbers);
+      card_numbers = refused_numbers;
     })
 
 pub coefficients_of-x-requires : goal.coefficients_of-x-requires

@@ -7,7 +7,7 @@ use mathlib.Core.List.{List}
 use Rattle.kind.specs.Kind.{sound_kind}
 use Rattle.verdict.specs.Steps.{Step, first_failing}
 use Rattle.verdict.specs.Rules.{first_steps, width_step, table_steps}
-use Rattle.verdict.proofs.HandedOut.{zeros-numbers}
+use Rattle.virial.proofs.Numbers.{refused_numbers}
 use Rattle.verdict.proofs.Tables.{on_refusal, on_none}
 use Rattle.virial.specs.Reading.{CardAnswer}
 use Rattle.virial.specs.Answers.{card_answer}
@@ -24,7 +24,7 @@ unfolding card_answer
 returns-in_err-setting c =
     let p = err_from_is_err_and c.from_residual.result c.from_residual.ensures.1 in
     rw (p.1, p.2)
-    (record { card_stated = on_refusal Err _ _ _ _ _ _ c.in_err-setting.ensures ∙ known _ _ _ _; card_numbers = (zeros-numbers, zeros-numbers, zeros-numbers); table_stays = refl })
+    (record { card_stated = on_refusal Err _ _ _ _ _ _ c.in_err-setting.ensures ∙ known _ _ _ _; card_numbers = refused_numbers; table_stays = refl })
 
 pub screened-requires : goal.screened-requires
 screened-requires c = c.in_ok-setting.ensures.2
